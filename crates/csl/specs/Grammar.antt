@@ -1,0 +1,95 @@
+-- The formula text: "One line, at most 512 bytes, tokens set apart by one space." Assumes nothing.
+use Prim.Native.Nat.{ℕ, zero, suc}
+use mathlib.Core.Bool.{Bool, true, false, cond, _&&_}
+use mathlib.Core.List.{List, [], _∷_}
+use mathlib.Core.Option.{Option, none, some}
+use lib.ListN.{length}
+use lib.Dec.{eqb}
+use Rattle.csl.specs.Text.{Text, bytes, same}
+use Rattle.csl.specs.Limits.{formulaDigits}
+use Rattle.csl.specs.Number.{isNumber, valueOf}
+use Rattle.csl.specs.Line.{space, parts, linesOf, firstLine, isEnded}
+use Rattle.csl.specs.Labels.{isWord}
+use Rattle.csl.specs.Formula.{Formula, always, label, negated, both, until, Comparison, Less, AtMost, AtLeast, More}
+
+unfoldable pub tokensOf : Text → List Text
+tokensOf text = parts space (firstLine text)
+
+-- what a reader makes of the tokens before it: a formula and the tokens after it, or nothing
+pub data Found : Type 0 where
+  nothing : Found
+  found : Formula → List Text → Found
+
+abbrev pub Reader : Type 0
+Reader = List Text → Found
+
+unfoldable pub andThen : Found → (Formula → List Text → Found) → Found
+andThen nothing next = nothing
+andThen (found a rest) next = next a rest
+
+-- the four comparisons
+unfoldable pub comparisonOf : Text → Option Comparison
+comparisonOf w =
+    cond (same w (bytes "<")) (some Less)
+    (cond (same w (bytes "<=")) (some AtMost)
+    (cond (same w (bytes ">=")) (some AtLeast) (cond (same w (bytes ">")) (some More) none)))
+
+unfoldable pub onComparison : List Text → (Comparison → List Text → Found) → Found
+onComparison [] next = nothing
+onComparison (w ∷ ts) next = elim (comparisonOf w) [ none ↦ nothing | some r ↦ next r ts ]
+
+-- a threshold, or "whole hours"
+unfoldable pub onNumber : List Text → (ℕ → List Text → Found) → Found
+onNumber [] next = nothing
+onNumber (w ∷ ts) next = elim (isNumber formulaDigits w) [ true ↦ next (valueOf w) ts | false ↦ nothing ]
+
+-- one word that is fixed
+unfoldable pub onWord : Text → List Text → (List Text → Found) → Found
+onWord x [] next = nothing
+onWord x (w ∷ ts) next = elim (same w x) [ true ↦ next ts | false ↦ nothing ]
+
+-- two state formulas
+unfoldable pub pair : Reader → (Formula → Formula → Formula) → Reader
+pair read make ts = andThen (read ts) λ a more. andThen (read more) λ b rest. found (make a b) rest
+
+-- "A path formula is `U`, whole hours and two state formulas."
+unfoldable pub path : Reader → Comparison → ℕ → Reader
+path read r p ts = onWord (bytes "U") ts λ more. onNumber more λ t rest. pair read (until r p t) rest
+
+-- how a state formula begins
+pub data Head : Type 0 where
+  truth name bang ampersand chance other : Head
+
+-- "A word of 1 to 12 letters a to z other than `tt` counts as a label name here."
+unfoldable pub headOf : Text → Head
+headOf w =
+    cond (same w (bytes "tt")) truth
+    (cond (isWord w) name
+    (cond (same w (bytes "!")) bang (cond (same w (bytes "&")) ampersand (cond (same w (bytes "P")) chance other))))
+
+-- "A state formula is `tt`, a label name, `!` and a state formula, `&` and two state formulas, or `P`, a comparison, a threshold and a
+-- path formula."
+unfoldable pub state : Reader → Text → Head → Reader
+state read w truth ts = found always ts
+state read w name ts = found (label w) ts
+state read w bang ts = andThen (read ts) λ a rest. found (negated a) rest
+state read w ampersand ts = pair read both ts
+state read w chance ts = onComparison ts λ r more. onNumber more λ p rest. path read r p rest
+state read w other ts = nothing
+
+-- a state formula at the head of the tokens; each reader within it has fewer tokens, so their number is steps enough
+unfoldable pub readState : ℕ → Reader
+readState zero ts = nothing
+readState (suc k) [] = nothing
+readState (suc k) (w ∷ ts) = state (readState k) w (headOf w) ts
+
+-- nothing may stand after it
+unfoldable pub whole : Found → Option Formula
+whole nothing = none
+whole (found f []) = some f
+whole (found f (w ∷ ts)) = none
+
+-- the formula that a text of one line spells, if it spells one
+unfoldable pub readFormula : Text → Option Formula
+readFormula text =
+    cond (isEnded text && eqb (length (linesOf text)) 1) (whole (readState (length (tokensOf text)) (tokensOf text))) none

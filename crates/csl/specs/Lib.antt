@@ -1,0 +1,21 @@
+-- Document 01 as definitions, in its order: read these from top to bottom beside it.
+pub mod Text
+pub mod Limits
+pub mod Number
+pub mod Line
+pub mod Labels
+pub mod Moves
+pub mod Formula
+pub mod Grammar
+pub mod Fraction
+pub mod Chain
+pub mod Phase
+pub mod Limit
+pub mod Verdicts
+pub mod Ends
+pub mod Backing
+pub mod Truth
+pub mod Report
+pub mod Lent
+pub mod Refusal
+pub mod Finished

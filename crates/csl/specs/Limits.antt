@@ -1,0 +1,67 @@
+-- Document 01's limits, each under its own name. Assumes nothing.
+use Prim.Native.Nat.{ℕ}
+
+-- "A billionth is 1/1,000,000,000; thresholds and interval ends are whole billionths."
+abbrev pub billion : ℕ
+billion = 1000000000
+
+-- "of at most 10 digits in the formula and 9 elsewhere"
+abbrev pub formulaDigits : ℕ
+formulaDigits = 10
+
+abbrev pub sheetDigits : ℕ
+sheetDigits = 9
+
+-- "up to 16 label names"; "A name is 1 to 12 letters"
+abbrev pub mostNames : ℕ
+mostNames = 16
+
+abbrev pub mostLetters : ℕ
+mostLetters = 12
+
+-- "There are 1 to 512 states"; "0 to 4,096 lines"
+abbrev pub mostStates : ℕ
+mostStates = 512
+
+abbrev pub mostMoves : ℕ
+mostMoves = 4096
+
+-- "The rates out of one state add to at most 64,000,000."
+abbrev pub mostRate : ℕ
+mostRate = 64000000
+
+-- "at most 512 bytes"; "Moves and labels have at most 61,440 bytes each."
+abbrev pub formulaBytes : ℕ
+formulaBytes = 512
+
+abbrev pub sheetBytes : ℕ
+sheetBytes = 61440
+
+-- "at most 64, nested at most 16 deep"
+abbrev pub mostNodes : ℕ
+mostNodes = 64
+
+abbrev pub mostLevels : ℕ
+mostLevels = 16
+
+-- "threshold over 1,000,000,000 or hours over 8,760"; "q × t over 64,000,000"
+abbrev pub mostThreshold : ℕ
+mostThreshold = 1000000000
+
+abbrev pub mostHours : ℕ
+mostHours = 8760
+
+abbrev pub mostRateHours : ℕ
+mostRateHours = 64000000
+
+-- rates count moves per million hours: "the load L is q × t / 1,000,000"
+abbrev pub rateHours : ℕ
+rateHours = 1000000
+
+-- "The depth D is 2 × (L rounded up to a whole number) + 40."
+abbrev pub spareSteps : ℕ
+spareSteps = 40
+
+-- "at most 4 × D from each of them"; "the two ends differ by at most 4 × D"
+abbrev pub widthFactor : ℕ
+widthFactor = 4
