@@ -1,0 +1,68 @@
+-- Laws of the sum of a function below n. Assumes nothing.
+use mathlib.Core.Path.{_≡_, refl}
+use Prim.Native.Nat.{ℕ, zero, suc, _+_, _*_, _-_, _≤_, _<_}
+use native.Mathlib.Omega.{arith}
+use native.Mathlib.Numerals.{add-one}
+use native.Mathlib.Nat.{le-refl, le-suc-iff}
+use native.Mathlib.Decide.{le-ind}
+use mathlib.Core.Logic.{⊎-elim}
+use Rattle.csl.specs.Chain.{sumTo}
+use Rattle.numbers.specs.Hint.{le-times}
+
+-- by the code's names
+pub sum-zero : (f : ℕ → ℕ) → sumTo f 0 ≡ 0
+unfolding sumTo
+sum-zero f = refl
+
+pub sum-next : (f : ℕ → ℕ) (n : ℕ) → sumTo f (n + 1) ≡ sumTo f n + f n
+unfolding sumTo
+sum-next f n = rw add-one
+
+pub sum-mono : (f : ℕ → ℕ) (i n : ℕ) → i ≤ n → sumTo f i ≤ sumTo f n
+unfolding sumTo
+sum-mono f i zero h = let e : i ≡ 0 = omega arith in rw e (le-refl _)
+sum-mono f i (suc n) h =
+    ⊎-elim (λ l. omega (arith, sum-mono f i n l)) (λ e. rw e (le-refl _)) (le-suc-iff .0 h)
+
+pub sum-le : (f g : ℕ → ℕ) (n : ℕ) → ((k : ℕ) → k < n → f k ≤ g k) → sumTo f n ≤ sumTo g n
+unfolding sumTo
+sum-le f g zero h = omega arith
+sum-le f g (suc n) h =
+    let r : (k : ℕ) → k < n → f k ≤ g k = λ k l. h k (omega arith) in
+    omega (arith, sum-le f g n r, h n (omega arith))
+
+pub sum-scale : (f : ℕ → ℕ) (m n : ℕ) → sumTo (λ k. f k * m) n ≡ sumTo f n * m
+unfolding sumTo
+sum-scale f m zero = omega arith
+sum-scale f m (suc n) = omega (arith, sum-scale f m n)
+
+pub sum-add : (f g : ℕ → ℕ) (n : ℕ) → sumTo (λ k. f k + g k) n ≡ sumTo f n + sumTo g n
+unfolding sumTo
+sum-add f g zero = omega arith
+sum-add f g (suc n) = omega (arith, sum-add f g n)
+
+-- the weights f, each value g at most m: the weighted sum is at most m times the sum of the weights
+pub sum-weighted : (f g : ℕ → ℕ) (m n : ℕ) → ((k : ℕ) → k < n → g k ≤ m) → sumTo (λ k. f k * g k) n ≤ sumTo f n * m
+unfolding sumTo
+sum-weighted f g m zero h = omega arith
+sum-weighted f g m (suc n) h =
+    let r : (k : ℕ) → k < n → g k ≤ m = λ k l. h k (omega arith) in
+    omega (arith, sum-weighted f g m n r, le-times (f n) (h n (omega arith)))
+
+-- the same between two places
+pub sum-weighted-from : (f g : ℕ → ℕ) (m i n : ℕ) → i ≤ n → ((k : ℕ) → k < n → g k ≤ m)
+    → sumTo (λ k. f k * g k) n + sumTo f i * m ≤ sumTo (λ k. f k * g k) i + sumTo f n * m
+unfolding sumTo
+sum-weighted-from f g m i zero l h = let e : i ≡ 0 = omega arith in rw e (omega arith)
+sum-weighted-from f g m i (suc n) l h =
+    let r : (k : ℕ) → k < n → g k ≤ m = λ k b. h k (omega arith) in
+    ⊎-elim (λ b. omega (arith, sum-weighted-from f g m i n b r, le-times (f n) (h n (omega arith)))) (λ e. rw e (omega arith))
+    (le-suc-iff .0 l)
+
+-- functions that agree below n have one sum there
+pub sum-cong : (f g : ℕ → ℕ) (n : ℕ) → ((k : ℕ) → k < n → f k ≡ g k) → sumTo f n ≡ sumTo g n
+unfolding sumTo
+sum-cong f g zero h = refl
+sum-cong f g (suc n) h =
+    let r : (k : ℕ) → k < n → f k ≡ g k = λ k b. h k (omega arith) in
+    omega (arith, sum-cong f g n r, h n (omega arith))
