@@ -5,7 +5,7 @@ use Prim.Native.Nat.{ℕ, _<_}
 use Rattle.csl.specs.Formula.{Formula, always, label, negated, both, until, Comparison}
 use Rattle.csl.specs.Chain.{Chain}
 use Rattle.csl.specs.Verdicts.{Verdict, Yes, marked, negation, conjunction, judged}
-use Rattle.csl.specs.Ends.{EndsAt}
+use Rattle.csl.specs.Ends.{EndsAt, AllDecided}
 
 -- at each state of the chain
 abbrev pub AtEach : Chain → (ℕ → Type 0) → Type 0
@@ -47,3 +47,15 @@ Backed c (label w) v = AtEach c λ s. v s ≡ marked (c .mark w s)
 Backed c (negated a) v = NotBacked c (Backed c a) v
 Backed c (both a b) v = BothBacked c (Backed c a) (Backed c b) v
 Backed c (until r p t a b) v = SomeEnds λ lower upper. UntilBacked c r p t (Backed c a) (Backed c b) lower upper v
+
+-- nothing is undecided, at any node and state of a backing
+unfoldable pub NothingUndecided : (c : Chain) (f : Formula) (v : ℕ → Verdict) → Backed c f v → Type 0
+unfolding Backed
+NothingUndecided c always v k = AllDecided c v
+NothingUndecided c (label name) v k = AllDecided c v
+NothingUndecided c (negated a) v k = AllDecided c v × NothingUndecided c a (k .first) (k .first-backed)
+NothingUndecided c (both a e) v k =
+    AllDecided c v × NothingUndecided c a (k .first) (k .first-backed) × NothingUndecided c e (k .second) (k .second-backed)
+NothingUndecided c (until r p t a e) v k =
+    AllDecided c v × NothingUndecided c a (k .keeps .first) (k .keeps .first-backed)
+    × NothingUndecided c e (k .keeps .second) (k .keeps .second-backed)

@@ -19,3 +19,4 @@ pub mod Report
 pub mod Lent
 pub mod Refusal
 pub mod Finished
+pub mod Laws

@@ -8,7 +8,8 @@ use Rattle.csl.specs.Fraction.{Fraction}
 use Rattle.csl.specs.Chain.{Chain}
 use Rattle.csl.specs.Phase.{untilQuotient}
 use Rattle.csl.specs.Limit.{LimitIs, opposite}
-use Rattle.csl.specs.Backing.{AtEach}
+use Rattle.csl.specs.Verdicts.{Verdict, Reading}
+use Rattle.csl.specs.Backing.{AtEach, Backed, NotBacked, BothBacked, UntilBacked, SomeEnds}
 
 -- ".. `tt`, labels, `!` and `&` have what this section gives them"
 pub record NotTrue (c : Chain) (A : (ℕ → Bool) → Type 0) (b : ℕ → Bool) : Type 0 where
@@ -42,3 +43,16 @@ Obeys c (label w) b = AtEach c λ s. b s ≡ c .mark w s
 Obeys c (negated a) b = NotTrue c (Obeys c a) b
 Obeys c (both a e) b = BothTrue c (Obeys c a) (Obeys c e) b
 Obeys c (until r p t a e) b = UntilTrue c r p t (Obeys c a) (Obeys c e) b
+
+-- the table agrees with the backing at this node and at every node below it
+unfoldable pub Throughout : (c : Chain) (f : Formula) (v : ℕ → Verdict) (b : ℕ → Bool) → Backed c f v → Obeys c f b → Type 0
+unfolding Backed Obeys
+Throughout c always v b k o = Reading (c .states) v b
+Throughout c (label name) v b k o = Reading (c .states) v b
+Throughout c (negated a) v b k o = Reading (c .states) v b × Throughout c a (k .first) (o .first) (k .first-backed) (o .first-obeys)
+Throughout c (both a e) v b k o =
+    Reading (c .states) v b × Throughout c a (k .first) (o .first) (k .first-backed) (o .first-obeys)
+    × Throughout c e (k .second) (o .second) (k .second-backed) (o .second-obeys)
+Throughout c (until r p t a e) v b k o =
+    Reading (c .states) v b × Throughout c a (k .keeps .first) (o .first) (k .keeps .first-backed) (o .first-obeys)
+    × Throughout c e (k .keeps .second) (o .second) (k .keeps .second-backed) (o .second-obeys)

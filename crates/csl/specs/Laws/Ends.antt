@@ -1,0 +1,77 @@
+-- What follows from the rules for ends, and ends that keep them where nothing has to be summed. Assumes nothing.
+use mathlib.Core.Path.{_≡_, refl, ap, sym, _∙_}
+use mathlib.Core.Bool.{Bool, true, false, not, _||_}
+use Prim.Native.Nat.{ℕ, zero, suc, _+_, _*_, _≤_, _<_}
+use native.Mathlib.Omega.{arith}
+use native.Mathlib.Nat.{mul-le-mul-left, mul-le-mul-right, le-refl, le-of-mul-le-mul-right}
+use Rattle.csl.specs.Fraction.{Fraction, frac, IsFraction, Below, Same, plus, billionths}
+use Rattle.csl.specs.Chain.{Chain, load, topRate, depth}
+use Rattle.csl.specs.Phase.{bit, untilPhase, divisor, stepTop, stepValue, quotient, untilQuotient}
+use Rattle.csl.specs.Verdicts.{Verdict, No, Yes, Undecided, Agrees, Reading, Decided, asNo, asYes, least, most}
+use Rattle.csl.specs.Ends.{EndsAt, AllDecided, slack, lowQuotient, highQuotient}
+use Rattle.csl.specs.Laws.Fraction.{Under, under-right, below-trans}
+use Rattle.csl.specs.Laws.Quotient.{until-is, until-le, until-rises}
+use Rattle.csl.specs.Laws.Point.{step-one, step-nil, quotient-ge, quotient-nil, quotient-first}
+
+-- where the second operand holds the quotients are 1
+pub until-one : (c : Chain) (t : ℕ) (a b : ℕ → Bool) (s : ℕ) → s < c .states → b s ≡ true → (n : ℕ)
+    → untilQuotient c t a b s n .top ≡ untilQuotient c t a b s n .bottom
+until-one c t a b s l e n =
+    let start : bit (b s) ≡ 1 = rw e in
+    let h : (k : ℕ) → divisor c 1 k ≤ stepTop c (untilPhase a b) k s = λ k. rw (step-one c (untilPhase a b) s e start k) (le-refl _) in
+    omega (arith, until-le c t a b s n l, quotient-ge (load c t) (stepValue c (untilPhase a b) s) h n)
+
+-- where neither holds they are 0
+pub until-nil : (c : Chain) (t : ℕ) (a b : ℕ → Bool) (s : ℕ) → a s ≡ false → b s ≡ false → (n : ℕ) → untilQuotient c t a b s n .top ≡ 0
+until-nil c t a b s e f n =
+    let z : not (a s || b s) ≡ true = rw (e, f) in
+    let start : bit (b s) ≡ 0 = rw f in
+    quotient-nil (load c t) (stepValue c (untilPhase a b) s) (step-nil c (untilPhase a b) s f z start) n
+
+-- with load 0 they are 1 or 0 as the second operand holds
+pub until-still : (c : Chain) (t : ℕ) (a b : ℕ → Bool) (s : ℕ) → topRate c * t ≡ 0 → (n : ℕ)
+    → Same (untilQuotient c t a b s n) (frac (bit (b s)) 1)
+unfolding load stepTop divisor
+until-still c t a b s e n = quotient-first (load c t) (stepValue c (untilPhase a b) s) e n
+
+module _ (c : Chain) (t : ℕ) (v w : ℕ → Verdict) (s lower upper : ℕ) (in-range : s < c .states) (e : EndsAt c t v w s lower upper) where
+  low-high : (n : ℕ) → Under (lowQuotient c t v w s n) (highQuotient c t v w s n)
+  low-high n = until-rises c t (least v) (least w) (most v) (most w) (λ u m. rises (v u)) (λ u m. rises (w u)) s n in-range
+    where
+      rises : (x : Verdict) → asNo x ≡ true → asYes x ≡ true
+      rises No h = h
+      rises Yes h = refl
+      rises Undecided h = refl
+
+  -- the lower end is not above the upper one
+  pub ordered : lower ≤ upper
+  ordered =
+      let d : ℕ = depth c t in
+      let low : Fraction = lowQuotient c t v w s d in
+      let high : Fraction = highQuotient c t v w s d in
+      let h : Below (billionths lower) (billionths upper)
+      = below-trans (billionths lower) high (billionths upper) (until-is c t (most v) (most w) s d)
+      (under-right (billionths lower) low high (low-high d) (e .lower-side d (le-refl d))) (e .upper-side d (le-refl d)) in
+      omega arith
+
+  -- a second operand that is undecided puts the upper end at 1
+  pub upper-of-undecided : w s ≡ Undecided → upper ≡ 1000000000
+  upper-of-undecided h =
+      let d : ℕ = depth c t in
+      let high : Fraction = highQuotient c t v w s d in
+      let one : high .top ≡ high .bottom = until-one c t (most v) (most w) s in-range (rw h) d in
+      let k : 1000000000 ≤ upper
+      = le-of-mul-le-mul-right {k = high .bottom} (omega (arith, e .upper-side d (le-refl d)))
+      (until-is c t (most v) (most w) s d) in
+      omega (arith, e .upper-range)
+
+  -- a first operand that is undecided, where the second is no, puts the lower end at 0
+  pub lower-of-undecided : v s ≡ Undecided → w s ≡ No → lower ≡ 0
+  lower-of-undecided h k =
+      let d : ℕ = depth c t in
+      let low : Fraction = lowQuotient c t v w s d in
+      let nil : low .top ≡ 0 = until-nil c t (least v) (least w) s (rw h) (rw k) d in
+      let j : lower ≤ 0
+      = le-of-mul-le-mul-right {k = low .bottom} (omega (arith, e .lower-side d (le-refl d)))
+      (until-is c t (least v) (least w) s d) in
+      omega arith

@@ -1,0 +1,90 @@
+-- T2: every truth table that obeys CSL's rules agrees with every backing. T3: a backing with nothing undecided is such a table. Assumes nothing.
+use mathlib.Core.Path.{_≡_, refl, ap, _∙_}
+use mathlib.Core.Bool.{Bool, true, false, not, _&&_}
+use Prim.Native.Nat.{ℕ, _<_}
+use Rattle.csl.specs.Formula.{Comparison, Formula, always, label, negated, both, until}
+use Rattle.csl.specs.Chain.{Chain, depth}
+use Rattle.csl.specs.Phase.{untilQuotient}
+use Rattle.csl.specs.Verdicts.{Verdict, No, Yes, Undecided, marked, negation, conjunction, judged, Agrees, Reading, Decided, asNo}
+use Rattle.csl.specs.Ends.{EndsAt, AllDecided}
+use Rattle.csl.specs.Backing.{NothingUndecided, AtEach, Backed, NotBacked, BothBacked, UntilBacked, SomeEnds}
+use Rattle.csl.specs.Truth.{Entry, Obeys, NotTrue, BothTrue, UntilTrue}
+use Rattle.csl.specs.Laws.Quotient.{until-is}
+use Rattle.csl.specs.Laws.Enclosure.{Encloses, encloses}
+use Rattle.csl.specs.Laws.Judging.{Settles, settles, entry-agrees, entry-obeys}
+use Rattle.csl.specs.Laws.Agree.{UntilAgrees, agrees}
+
+-- what the verdict of a `P` says of the limit, for every reading of its operands
+pub until-settles : (c : Chain) (r : Comparison) (p t : ℕ) (v w : ℕ → Verdict) (x y : ℕ → Bool) (s lower upper : ℕ)
+    → s < c .states → EndsAt c t v w s lower upper → Reading (c .states) v x → Reading (c .states) w y
+    → Settles (judged r p lower upper) r p (untilQuotient c t x y s)
+until-settles c r p t v w x y s lower upper l e h k =
+    let i : Encloses c t lower upper x y s = encloses c t v w x y s lower upper l e h k in
+    settles (untilQuotient c t x y s) lower upper (depth c t) (i .below) (i .above) r p
+
+pub until-agrees : (c : Chain) → UntilAgrees c
+until-agrees c r p t v w x y s lower upper b l e h k o =
+    entry-agrees (untilQuotient c t x y s) (until-is c t x y s) r p (judged r p lower upper) b
+    (until-settles c r p t v w x y s lower upper l e h k) o
+
+pub T2 : (c : Chain) (f : Formula) (v : ℕ → Verdict) (b : ℕ → Bool) → Backed c f v → Obeys c f b → Reading (c .states) v b
+T2 c f v b k o = agrees c (until-agrees c) f v b k o
+
+as-no-reads : (v : Verdict) → Agrees v (asNo v)
+unfolding Agrees
+as-no-reads No = refl
+as-no-reads Yes = refl
+as-no-reads Undecided = tt
+
+as-no-mark : (b : Bool) → asNo (marked b) ≡ b
+as-no-mark true = refl
+as-no-mark false = refl
+
+as-no-not : (v : Verdict) → Decided v → asNo (negation v) ≡ not (asNo v)
+as-no-not No d = refl
+as-no-not Yes d = refl
+as-no-not Undecided d = absurd d
+
+as-no-and : (v w : Verdict) → Decided v → Decided w → asNo (conjunction v w) ≡ (asNo v && asNo w)
+as-no-and No w d e = refl
+as-no-and Yes w d e = refl
+as-no-and Undecided w d e = absurd d
+
+root : (c : Chain) (f : Formula) (v : ℕ → Verdict) (k : Backed c f v) → NothingUndecided c f v k → AllDecided c v
+unfolding Backed NothingUndecided
+root c always v k d = d
+root c (label name) v k d = d
+root c (negated a) v k d = d .0
+root c (both a e) v k d = d .0
+root c (until r p t a e) v k d = d .0
+
+pub T3 : (c : Chain) (f : Formula) (v : ℕ → Verdict) (k : Backed c f v) → NothingUndecided c f v k → Obeys c f (λ s. asNo (v s))
+unfolding Backed NothingUndecided Obeys
+T3 c always v k d = λ s l. rw (k s l)
+T3 c (label name) v k d = λ s l. rw (k s l) (as-no-mark (c .mark name s))
+T3 c (negated a) v k d =
+    record {
+      first = λ s. asNo (k .first s);
+      first-obeys = T3 c a _ (k .first-backed) (d .1);
+      entry = λ s l. rw (k .verdict s l) (as-no-not (k .first s) (root c a _ (k .first-backed) (d .1) s l));
+    }
+T3 c (both a e) v k d =
+    record {
+      first = λ s. asNo (k .first s);
+      first-obeys = T3 c a _ (k .first-backed) (d .1);
+      second = λ s. asNo (k .second s);
+      second-obeys = T3 c e _ (k .second-backed) (d .2);
+      entry = λ s l. rw (k .verdict s l)
+          (as-no-and (k .first s) (k .second s) (root c a _ (k .first-backed) (d .1) s l) (root c e _ (k .second-backed) (d .2) s l));
+    }
+T3 c (until r p t a e) v k d =
+    record {
+      first = λ s. asNo (k .keeps .first s);
+      first-obeys = T3 c a _ (k .keeps .first-backed) (d .1);
+      second = λ s. asNo (k .keeps .second s);
+      second-obeys = T3 c e _ (k .keeps .second-backed) (d .2);
+      entry = λ s l. rw (k .keeps .verdict s l)
+          (entry-obeys _ r p _ (rw (k .keeps .verdict s l) at (d .0 s l))
+          (until-settles c r p t (k .keeps .first) (k .keeps .second) _ _ s (k .lower s) (k .upper s) l (k .keeps .ends s l)
+          (λ u m. as-no-reads (k .keeps .first u)) (λ u m. as-no-reads (k .keeps .second u))));
+    }

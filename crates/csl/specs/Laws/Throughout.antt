@@ -1,0 +1,109 @@
+-- T2 at every node; and two backings never stand against each other. Assumes nothing.
+use mathlib.Core.Path.{_≡_, refl, ap, sym, _∙_}
+use mathlib.Core.Bool.{Bool, true, false, not, _&&_, _||_, true≢false}
+use Prim.Native.Nat.{ℕ, _<_}
+use Rattle.csl.specs.Formula.{Comparison, Formula, always, label, negated, both, until}
+use Rattle.csl.specs.Fraction.{Fraction, IsFraction}
+use Rattle.csl.specs.Chain.{Chain}
+use Rattle.csl.specs.Phase.{untilQuotient}
+use Rattle.csl.specs.Verdicts.{Verdict, No, Yes, Undecided, marked, negation, conjunction, judged, Agrees, Reading, asNo}
+use Rattle.csl.specs.Backing.{AtEach, Backed, NotBacked, BothBacked, UntilBacked, SomeEnds}
+use Rattle.csl.specs.Truth.{Throughout, Obeys, NotTrue, BothTrue, UntilTrue}
+use Rattle.csl.specs.Laws.Quotient.{until-is}
+use Rattle.csl.specs.Laws.Judging.{Settles, apart}
+use Rattle.csl.specs.Laws.Agree.{agrees-mark, agrees-not, agrees-and}
+use Rattle.csl.specs.Laws.Settled.{T2, until-settles}
+
+pub throughout : (c : Chain) (f : Formula) (v : ℕ → Verdict) (b : ℕ → Bool) (k : Backed c f v) (o : Obeys c f b) → Throughout c f v b k o
+unfolding Backed Obeys Throughout
+throughout c always v b k o = T2 c always v b k o
+throughout c (label name) v b k o = T2 c (label name) v b k o
+throughout c (negated a) v b k o = (T2 c (negated a) v b k o, throughout c a _ _ (k .first-backed) (o .first-obeys))
+throughout c (both a e) v b k o =
+    (T2 c (both a e) v b k o, throughout c a _ _ (k .first-backed) (o .first-obeys), throughout c e _ _ (k .second-backed) (o .second-obeys))
+throughout c (until r p t a e) v b k o = (
+  T2 c (until r p t a e) v b k o,
+  throughout c a _ _ (k .keeps .first-backed) (o .first-obeys),
+  throughout c e _ _ (k .keeps .second-backed) (o .second-obeys),
+)
+
+-- one yes or no agrees with both verdicts
+pub record Together (v w : Verdict) : Type 0 where
+  pub entry : Bool
+  pub left : Agrees v entry
+  pub right : Agrees w entry
+
+-- yes where either says yes
+abbrev either : Verdict → Verdict → Bool
+either v w = asNo v || asNo w
+
+together-left : (v w : Verdict) → Together v w → Agrees v (either v w)
+unfolding Agrees
+together-left No No h = refl
+together-left No Yes h = sym (h .right) ∙ h .left
+together-left No Undecided h = refl
+together-left Yes w h = refl
+together-left Undecided w h = tt
+
+together-right : (v w : Verdict) → Together v w → Agrees w (either v w)
+unfolding Agrees
+together-right No No h = refl
+together-right No Yes h = refl
+together-right No Undecided h = tt
+together-right Yes No h = sym (h .left) ∙ h .right
+together-right Yes Yes h = refl
+together-right Yes Undecided h = tt
+together-right Undecided No h = refl
+together-right Undecided Yes h = refl
+together-right Undecided Undecided h = tt
+
+-- two verdicts that both say true things of one limit
+settled-together : (x : ℕ → Fraction) → ((n : ℕ) → IsFraction (x n)) → (r : Comparison) (p : ℕ) (v w : Verdict)
+    → Settles v r p x → Settles w r p x → Together v w
+unfolding Settles Agrees
+settled-together x is r p No No h k = record { entry = false; left = refl; right = refl }
+settled-together x is r p No Yes h k = absurd (apart x is p r k h)
+settled-together x is r p No Undecided h k = record { entry = false; left = refl; right = tt }
+settled-together x is r p Yes No h k = absurd (apart x is p r h k)
+settled-together x is r p Yes Yes h k = record { entry = true; left = refl; right = refl }
+settled-together x is r p Yes Undecided h k = record { entry = true; left = refl; right = tt }
+settled-together x is r p Undecided No h k = record { entry = false; left = tt; right = refl }
+settled-together x is r p Undecided Yes h k = record { entry = true; left = tt; right = refl }
+settled-together x is r p Undecided Undecided h k = record { entry = true; left = tt; right = tt }
+
+yes-yes : Together Yes Yes
+unfolding Agrees
+yes-yes = record { entry = true; left = refl; right = refl }
+
+-- where one backing has yes no other has no
+pub backings-agree : (c : Chain) (f : Formula) (v w : ℕ → Verdict) → Backed c f v → Backed c f w → AtEach c λ s. Together (v s) (w s)
+unfolding Backed
+backings-agree c always v w k m s l = rw (k s l, m s l) yes-yes
+backings-agree c (label name) v w k m s l =
+    rw (k s l, m s l) (record { entry = c .mark name s; left = agrees-mark (c .mark name s); right = agrees-mark (c .mark name s) })
+backings-agree c (negated a) v w k m s l =
+    let h : Together (k .first s) (m .first s) = backings-agree c a _ _ (k .first-backed) (m .first-backed) s l in
+    rw (k .verdict s l, m .verdict s l)
+    (record { entry = not (h .entry); left = agrees-not _ _ (h .left); right = agrees-not _ _ (h .right) })
+backings-agree c (both a e) v w k m s l =
+    let h : Together (k .first s) (m .first s) = backings-agree c a _ _ (k .first-backed) (m .first-backed) s l in
+    let j : Together (k .second s) (m .second s) = backings-agree c e _ _ (k .second-backed) (m .second-backed) s l in
+    rw (k .verdict s l, m .verdict s l)
+    (record {
+      entry = h .entry && j .entry;
+      left = agrees-and _ _ _ _ (h .left) (j .left);
+      right = agrees-and _ _ _ _ (h .right) (j .right);
+    })
+backings-agree c (until r p t a e) v w k m s l =
+    let h : AtEach c λ u. Together (k .keeps .first u) (m .keeps .first u)
+    = backings-agree c a _ _ (k .keeps .first-backed) (m .keeps .first-backed) in
+    let j : AtEach c λ u. Together (k .keeps .second u) (m .keeps .second u)
+    = backings-agree c e _ _ (k .keeps .second-backed) (m .keeps .second-backed) in
+    let x : ℕ → Bool = λ u. either (k .keeps .first u) (m .keeps .first u) in
+    let y : ℕ → Bool = λ u. either (k .keeps .second u) (m .keeps .second u) in
+    rw (k .keeps .verdict s l, m .keeps .verdict s l)
+    (settled-together (untilQuotient c t x y s) (until-is c t x y s) r p _ _
+    (until-settles c r p t (k .keeps .first) (k .keeps .second) x y s (k .lower s) (k .upper s) l (k .keeps .ends s l)
+    (λ u q. together-left _ _ (h u q)) (λ u q. together-left _ _ (j u q)))
+    (until-settles c r p t (m .keeps .first) (m .keeps .second) x y s (m .lower s) (m .upper s) l (m .keeps .ends s l)
+    (λ u q. together-right _ _ (h u q)) (λ u q. together-right _ _ (j u q))))

@@ -1,0 +1,106 @@
+"""What the chain means: exit rates, q, load, depth, and a phase's step values and quotients.
+
+Written as the paper has it, in fractions. `bracket.py` reckons the same faster.
+"""
+
+from dataclasses import dataclass
+from fractions import Fraction
+from functools import cached_property
+from itertools import islice
+from math import ceil
+
+HOURS_OF_RATES = 1_000_000  # a rate is moves per million hours
+DEPTH_FACTOR = 2
+DEPTH_MORE = 40
+
+
+@dataclass(frozen=True)
+class Chain:
+    """States 0 to `states` - 1, rates by (from, to), and for each name a mark for each state."""
+    states: int
+    rates: dict
+    marks: dict
+
+    @cached_property
+    def rows(self):
+        """For each state the moves to other states, as (to, rate)."""
+        rows = [[] for _ in range(self.states)]
+        for (source, target), rate in self.rates.items():
+            if source != target:
+                rows[source].append((target, rate))
+        return rows
+
+    @cached_property
+    def exits(self):
+        """The exit rate of each state."""
+        return [sum(rate for _, rate in row) for row in self.rows]
+
+    @cached_property
+    def q(self):
+        """The uniformisation rate: the greatest exit rate."""
+        return max(self.exits)
+
+    def load(self, hours):
+        return Fraction(self.q * hours, HOURS_OF_RATES)
+
+
+def depth(load):
+    """D = 2 x (L rounded up) + 40."""
+    return DEPTH_FACTOR * ceil(load) + DEPTH_MORE
+
+
+@dataclass(frozen=True)
+class Phase:
+    """A start vector and, for every later step, the states pinned to 1 and to 0; hours of it."""
+    start: tuple
+    ones: frozenset
+    zeros: frozenset
+    hours: int
+
+
+def until(first, second, hours):
+    """Until as a phase: `first` and `second` say for each state whether the operand holds."""
+    states = range(len(second))
+    return Phase(start=tuple(int(second[s]) for s in states),
+                 ones=frozenset(s for s in states if second[s]),
+                 zeros=frozenset(s for s in states if not first[s] and not second[s]),
+                 hours=hours)
+
+
+def step_values(chain, phase):
+    """The vectors of step values, step 0 first, without end."""
+    values = [Fraction(value) for value in phase.start]
+    while True:
+        yield values
+        values = [later_value(chain, phase, s, values) for s in range(chain.states)]
+
+
+def later_value(chain, phase, s, values):
+    """The value of state s one step after `values`."""
+    if s in phase.ones:
+        return Fraction(1)
+    if s in phase.zeros:
+        return Fraction(0)
+    if chain.q == 0:
+        return values[s]
+    total = sum(rate * values[target] for target, rate in chain.rows[s])
+    return (total + (chain.q - chain.exits[s]) * values[s]) / chain.q
+
+
+def weights(load):
+    """The weights, step 0 first, without end."""
+    weight, step = Fraction(1), 0
+    while True:
+        yield weight
+        step += 1
+        weight = weight * load / step
+
+
+def quotients(chain, phase, last):
+    """The exact quotient of each state at depth `last`."""
+    tops, total = [Fraction(0)] * chain.states, Fraction(0)
+    pairs = zip(weights(chain.load(phase.hours)), step_values(chain, phase))
+    for weight, values in islice(pairs, last + 1):
+        tops = [top + weight * value for top, value in zip(tops, values)]
+        total += weight
+    return [top / total for top in tops]

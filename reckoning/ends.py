@@ -1,0 +1,88 @@
+"""Which ends the rules leave a `P` at each state, once its operands' verdicts are named."""
+
+from collections import namedtuple
+
+from .bracket import BILLION, bracket
+from .chain import depth
+from .verdict import COMPARISON, NO, UNDECIDED, YES, negate
+
+WIDTH_FACTOR = 4            # ends lie at most 4 x D from each quotient, and from each other
+
+# All pairs with lower from `lower[0]` to `lower[1]`, upper from `upper[0]` to `upper[1]`, and
+# upper - lower at most `width`, where that is a number.
+Ends = namedtuple("Ends", "lower upper width")
+
+CERTAIN = Ends((BILLION, BILLION), (BILLION, BILLION), 0)
+IMPOSSIBLE = Ends((0, 0), (0, 0), 0)
+
+
+class Rules:
+    """The rules for one chain. Bounds once reckoned are kept."""
+
+    def __init__(self, chain):
+        self.chain = chain
+        self.known = {}
+
+    def depth(self, path):
+        return depth(self.chain.load(path.hours))
+
+    def width(self, path, first, second):
+        """The most that two ends may differ; None where an operand state is undecided."""
+        return None if UNDECIDED in first + second else WIDTH_FACTOR * self.depth(path)
+
+    def bounds(self, path, first, second):
+        """The bracket of a reading; where the second operand holds the first does not matter."""
+        alone = tuple(a and not b for a, b in zip(first, second))
+        key = path.hours, alone, second
+        if key not in self.known:
+            self.known[key] = bracket(self.chain, alone, second, path.hours)
+        return self.known[key]
+
+    def ends(self, path, first, second):
+        """The Ends of each state, where the operands have these verdicts."""
+        lows = self.bounds(path, reading(first, (YES,)), reading(second, (YES,)))
+        highs = self.bounds(path, reading(first, (YES, UNDECIDED)), reading(second, (YES, UNDECIDED)))
+        slack = WIDTH_FACTOR * self.depth(path)
+        width = self.width(path, first, second)
+        exact = self.chain.load(path.hours) == 0
+        return [state_ends(a, b, low, high, 0 if exact else slack, width)
+                for a, b, low, high in zip(first, second, lows, highs)]
+
+
+def reading(verdicts, taken_as_yes):
+    return tuple(verdict in taken_as_yes for verdict in verdicts)
+
+
+def state_ends(first, second, low, high, slack, width):
+    """The Ends of one state; `low` and `high` are the Bounds of the lower and the upper reading."""
+    if second == YES:
+        return CERTAIN
+    if first == second == NO:
+        return IMPOSSIBLE
+    return Ends((max(0, low.up - slack), low.down), (high.up, min(BILLION, high.down + slack)), width)
+
+
+def has(ends, lower, upper):
+    """Whether the rules leave this pair."""
+    return (ends.lower[0] <= lower <= ends.lower[1] and ends.upper[0] <= upper <= ends.upper[1]
+            and (ends.width is None or upper - lower <= ends.width))
+
+
+def some(ends, lower_from=0, lower_to=BILLION, upper_from=0, upper_to=BILLION):
+    """Whether some pair is left with its ends within these limits too: try the nearest two."""
+    lower, upper = min(ends.lower[1], lower_to), max(ends.upper[0], upper_from)
+    return lower_from <= lower and upper <= upper_to and has(ends, lower, upper)
+
+
+def verdicts(node, ends):
+    """The verdicts that this `P` can have at a state with these Ends."""
+    negated, more = COMPARISON[node.comparison]
+    least = node.threshold + more
+    found = []
+    if some(ends, lower_from=least):
+        found.append(YES)
+    if some(ends, upper_to=least - 1):
+        found.append(NO)
+    if some(ends, lower_to=least - 1, upper_from=least):
+        found.append(UNDECIDED)
+    return frozenset(map(negate, found) if negated else found)

@@ -1,0 +1,150 @@
+"""The formula text: one line, tokens set apart by one space, read into a tree."""
+
+from dataclasses import dataclass
+
+from .texts import FORMULA_DIGITS, LINE_FEED, TRUE_WORD, is_number, is_word
+
+NODES = 64
+LEVELS = 16
+THRESHOLD = 1_000_000_000
+HOURS = 8_760
+
+COMPARISONS = (b"<", b"<=", b">=", b">")
+
+
+@dataclass(frozen=True)
+class Tt:
+    """`tt`"""
+
+
+@dataclass(frozen=True)
+class Label:
+    name: bytes
+
+
+@dataclass(frozen=True)
+class Not:
+    inner: object
+
+
+@dataclass(frozen=True)
+class And:
+    left: object
+    right: object
+
+
+@dataclass(frozen=True)
+class Until:
+    """A path formula: neither a node nor a level."""
+    hours: int
+    first: object
+    second: object
+
+
+@dataclass(frozen=True)
+class P:
+    comparison: bytes
+    threshold: int
+    path: Until
+
+
+class Broken(Exception):
+    """The text breaks the grammar."""
+
+
+def read_formula(text):
+    """The tree of a formula text, or None where it breaks the grammar.
+
+    512 bytes hold at most 256 tokens, so the readers call each other at most that deep.
+    """
+    if not text.endswith(LINE_FEED):
+        return None
+    tokens = text[:-1].split(b" ")
+    try:
+        tree, at = state_formula(tokens, 0)
+    except Broken:
+        return None
+    return tree if at == len(tokens) else None
+
+
+def token(tokens, at):
+    if at == len(tokens):
+        raise Broken
+    return tokens[at]
+
+
+def state_formula(tokens, at):
+    """The state formula from token `at` on, and the place after it."""
+    head = token(tokens, at)
+    if head == b"!":
+        inner, at = state_formula(tokens, at + 1)
+        return Not(inner), at
+    if head == b"&":
+        left, at = state_formula(tokens, at + 1)
+        right, at = state_formula(tokens, at)
+        return And(left, right), at
+    if head == b"P":
+        return bounded(tokens, at + 1)
+    if not is_word(head):
+        raise Broken
+    return (Tt() if head == TRUE_WORD else Label(head)), at + 1
+
+
+def bounded(tokens, at):
+    """What follows `P`: a comparison, a threshold and a path formula."""
+    comparison = token(tokens, at)
+    if comparison not in COMPARISONS:
+        raise Broken
+    threshold = number(tokens, at + 1)
+    path, at = path_formula(tokens, at + 2)
+    return P(comparison, threshold, path), at
+
+
+def path_formula(tokens, at):
+    if token(tokens, at) != b"U":
+        raise Broken
+    hours = number(tokens, at + 1)
+    first, at = state_formula(tokens, at + 2)
+    second, at = state_formula(tokens, at)
+    return Until(hours, first, second), at
+
+
+def number(tokens, at):
+    part = token(tokens, at)
+    if not is_number(part, FORMULA_DIGITS):
+        raise Broken
+    return int(part)
+
+
+def operands(tree):
+    """The state formulas one level down."""
+    if isinstance(tree, Not):
+        return (tree.inner,)
+    if isinstance(tree, And):
+        return (tree.left, tree.right)
+    if isinstance(tree, P):
+        return (tree.path.first, tree.path.second)
+    return ()
+
+
+def nodes(tree):
+    """Every state formula of the tree, itself first. Nodes are places: the same text twice is two."""
+    found, waiting = [], [tree]
+    while waiting:
+        found.append(waiting.pop())
+        waiting.extend(reversed(operands(found[-1])))
+    return found
+
+
+def levels(tree):
+    """How deep the tree is nested: a label alone is 1."""
+    count, row = 0, [tree]
+    while row:
+        count += 1
+        row = [below for node in row for below in operands(node)]
+    return count
+
+
+def bounds(tree):
+    """Every `P` of the tree."""
+    return [node for node in nodes(tree) if isinstance(node, P)]

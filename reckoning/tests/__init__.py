@@ -1,0 +1,1 @@
+"""Tests of the second reckoning, by jobs and reckonings of its own."""

@@ -1,0 +1,211 @@
+"""Inner nodes: a report counts only if all its nodes can be backed together."""
+
+import unittest
+from itertools import product
+from operator import contains
+from random import Random
+from unittest import mock
+
+from reckoning import backing
+from reckoning import formula as f
+from reckoning.ends import Rules, has, verdicts
+from reckoning.judge import allowed_ends, judge
+from reckoning.refusal import refusal
+from reckoning.report import ENDS_OF
+from reckoning.tests.sheets import LABELS, MOVES, random_chain, random_hours, row, texts
+from reckoning.verdict import WORDS, both, negate, of_ends
+
+TOP = b"state,lower,upper,depth,verdict\n"
+NEAR = b"P >= 3992000 U 8 up dead"      # the limit is about 3,992,010.656: yes or undecided
+ENDS = {"yes": b"1000000000,1000000000", "no": b"0,0", "undecided": b"0,1000000000"}
+
+
+def printed(rows):
+    return TOP + b"".join(b"%d,%d,%d,%d,%s\n" % (s, *row[:3], row[3].encode()) for s, row in enumerate(rows))
+
+
+def other(*words):
+    """The print of an outermost node other than `P`."""
+    return TOP + b"".join(b"%d,%s,0,%s\n" % (s, ENDS[w], w.encode()) for s, w in enumerate(words))
+
+
+def random_ends(random, ends):
+    """A pair that the rules leave."""
+    while True:
+        pair = random.randint(*ends.lower), random.randint(*ends.upper)
+        if has(ends, *pair):
+            return pair
+
+
+def random_rows(random, rules, node):
+    """A backing picked at random: the rows that a checker with such ends would print."""
+    below = [[row[3] for row in random_rows(random, rules, each)] for each in f.operands(node)]
+    if isinstance(node, f.P):
+        ends = rules.ends(node.path, *map(tuple, below))
+        pairs = [random_ends(random, each) for each in ends]
+        deep = rules.depth(node.path)
+        return [(*pair, deep, of_ends(node.comparison, node.threshold, *pair)) for pair in pairs]
+    if isinstance(node, f.Not):
+        words = map(negate, *below)
+    elif isinstance(node, f.And):
+        words = map(both, *below)
+    else:
+        words = backing.marks_of(rules, node)
+    return [(*ENDS_OF[word], 0, word) for word in words]
+
+
+def random_formula(random, chain, levels):
+    """Tokens of a formula whose thresholds often lie near a value of the chain."""
+    kind = random.choice("!&PPPl") if levels > 1 else "l"
+    if kind == "l":
+        return random.choice((b"tt", b"up", b"dead"))
+    parts = [random_formula(random, chain, levels - 1) for _ in range(1 if kind == "!" else 2)]
+    if kind != "P":
+        return b" ".join([kind.encode(), *parts])
+    hours = random_hours(random, chain)
+    near = random.choice(Rules(chain).bounds(f.Until(hours, None, None), chain.marks[b"up"],
+                                             chain.marks[b"dead"])).down
+    threshold = min(10 ** 9, max(0, near + random.randint(-60, 60)))
+    return b" ".join([b"P", random.choice(f.COMPARISONS), b"%d U %d" % (threshold, hours), *parts])
+
+
+class Nodes(unittest.TestCase):
+    def allows(self, formula, words):
+        return not judge(MOVES, LABELS, formula + b"\n", other(*words))
+
+    def test_one_node(self):
+        self.assertTrue(self.allows(b"! " + NEAR, ("no", "no")))
+        self.assertTrue(self.allows(b"! " + NEAR, ("undecided", "no")))
+        self.assertFalse(self.allows(b"! " + NEAR, ("yes", "no")))
+
+    def test_the_same_text_twice_is_two_nodes(self):
+        below = b"P < 3992000 U 8 up dead"      # no or undecided
+        words = b"! & ! " + below + b" " + NEAR
+        self.assertTrue(self.allows(words, ("undecided", "no")))
+        self.assertTrue(self.allows(words, ("no", "no")))
+        self.assertFalse(self.allows(words, ("yes", "no")))
+        self.assertTrue(self.allows(b"& " + NEAR + b" " + NEAR, ("undecided", "yes")))
+
+    def test_an_inner_verdict_binds_the_outer_ends_together(self):
+        """With the inner node undecided at 0 its upper end is 10^9 there, with it yes both are."""
+        formula = b"P >= 1 U 0 tt " + NEAR + b"\n"
+        sure, open_ = (10 ** 9, 10 ** 9, 40, "yes"), (0, 10 ** 9, 40, "undecided")
+        for rows, good in (((sure, sure), True), ((open_, sure), True), ((sure, open_), False),
+                           (((5, 10 ** 9, 40, "yes"), sure), False)):
+            self.assertEqual(judge(MOVES, LABELS, formula, printed(rows)) == [], good)
+
+    def test_no_backing_for_a_mixture(self):
+        """Two states must be backed by one and the same way of the inner node."""
+        moves, labels = texts(row(3, 500))
+        inner = b"P >= 3992000 U 8 up dead"     # state 0 no, state 1 yes or undecided, state 2 yes
+        formula = b"P >= 500000000 U 8 up " + inner + b"\n"
+        state_2 = (10 ** 9, 10 ** 9, 42, "yes")
+        yes_at_1 = ((3_992_010, 3_992_011, 42, "no"), (10 ** 9, 10 ** 9, 42, "yes"), state_2)
+        open_at_1 = ((7_976, 3_992_011, 42, "no"), (3_992_010, 10 ** 9, 42, "undecided"), state_2)
+        self.assertEqual(judge(moves, labels, formula, printed(yes_at_1)), [])
+        self.assertEqual(judge(moves, labels, formula, printed(open_at_1)), [])
+        mixed = (yes_at_1[0], open_at_1[1], state_2)
+        self.assertNotEqual(judge(moves, labels, formula, printed(mixed)), [])
+        allowed = allowed_ends(moves, labels, formula)
+        self.assertEqual(allowed.verdicts, [{"no"}, {"yes", "undecided"}, {"yes"}])
+
+    def test_too_many(self):
+        """The limit is put to the ways left; near ways are tried all the same."""
+        moves, labels = texts(row(3, 500))
+        job = refusal(moves, labels, b"P >= 1 U 1 tt " + NEAR + b"\n")
+        with mock.patch.object(backing, "MOST_WORK", 5):
+            with self.assertRaises(backing.TooMany):
+                backing.operand_ways(Rules(job.chain), job.tree)
+            two = b"P >= 1 U 0 tt " + NEAR + b"\n"
+            near = printed([(0, 0, 40, "no"), (10 ** 9, 10 ** 9, 40, "yes"), (10 ** 9, 10 ** 9, 40, "yes")])
+            self.assertEqual(judge(moves, labels, two, near), [])
+            with self.assertRaises(backing.TooMany):
+                judge(moves, labels, two, printed([(0, 0, 40, "no")] * 3))
+
+
+def plain_ways(rules, node):
+    """Every verdict vector of a node, each tried by itself."""
+    below = [plain_ways(rules, each) for each in f.operands(node)]
+    vectors = set()
+    for each in product(*below):
+        if isinstance(node, f.P):
+            words = [verdicts(node, ends) for ends in rules.ends(node.path, *each)]
+            vectors |= {v for v in product(WORDS, repeat=len(words)) if all(map(contains, words, v))}
+        elif isinstance(node, (f.Not, f.And)):
+            vectors.add(tuple(map(negate if isinstance(node, f.Not) else both, *each)))
+        else:
+            vectors.add(backing.marks_of(rules, node))
+    return vectors
+
+
+class Ways(unittest.TestCase):
+    def test_limit_of_pairs(self):
+        """Two ways for each operand, three states: the four pairs are what is too many."""
+        moves, labels = texts(row(3, 500))
+        job = refusal(moves, labels, b"P >= 1 U 1 " + NEAR + b" " + NEAR + b"\n")
+        with mock.patch.object(backing, "MOST_WORK", 6):
+            self.assertEqual(len(backing.ways(Rules(job.chain), job.tree.path.first)), 2)
+            with self.assertRaises(backing.TooMany):
+                backing.operand_ways(Rules(job.chain), job.tree)
+
+    def test_boxes_hold_every_way(self):
+        random, most = Random(16), 0
+        for _ in range(80):
+            chain = random_chain(random, states=2)
+            job = refusal(*texts(chain), random_formula(random, chain, 4) + b"\n")
+            rules = Rules(job.chain)
+            found = backing.ways(rules, job.tree)
+            most = max(most, len(found))
+            self.assertEqual(set(found), plain_ways(rules, job.tree))
+        self.assertGreater(most, 2)
+
+    def test_near_ways_are_ways(self):
+        random = Random(17)
+        for _ in range(80):
+            chain = random_chain(random, states=3)
+            job = refusal(*texts(chain), random_formula(random, chain, 3) + b"\n")
+            rules = Rules(job.chain)
+            found = backing.ways(rules, job.tree)
+            self.assertTrue(all(backing.near(rules, job.tree, *off) in found for off in backing.OFFSETS))
+
+
+class RandomBackings(unittest.TestCase):
+    def test_every_backing_is_allowed(self):
+        random, open_ways = Random(13), 0
+        for _ in range(150):
+            chain = random_chain(random, states=random.randint(2, 4))
+            formula = random_formula(random, chain, 4) + b"\n"
+            job = refusal(*texts(chain), formula)
+            self.assertNotIsInstance(job, int)
+            rules = Rules(job.chain)
+            open_ways += len(backing.boxes(rules, job.tree)) > 1
+            for _ in range(3):
+                text = printed(random_rows(random, rules, job.tree))
+                self.assertEqual(judge(*texts(chain), formula, text), [], (texts(chain), formula, text))
+        self.assertGreater(open_ways, 3)
+
+    def test_allowed_ends_cover_every_backing(self):
+        random = Random(14)
+        for _ in range(60):
+            chain = random_chain(random, states=random.randint(2, 4))
+            formula = random_formula(random, chain, 4) + b"\n"
+            job, allowed = refusal(*texts(chain), formula), allowed_ends(*texts(chain), formula)
+            for s, row_ in enumerate(random_rows(random, Rules(job.chain), job.tree)):
+                self.assertTrue(allowed.lower[s][0] <= row_[0] <= allowed.lower[s][1])
+                self.assertTrue(allowed.upper[s][0] <= row_[1] <= allowed.upper[s][1])
+                self.assertIn(row_[3], allowed.verdicts[s])
+                self.assertEqual(row_[2], allowed.depth)
+
+    def test_one_billionth_beyond_is_not_allowed(self):
+        random = Random(15)
+        for _ in range(60):
+            chain = random_chain(random, states=random.randint(2, 4))
+            formula = random_formula(random, chain, 3) + b"\n"
+            job, allowed = refusal(*texts(chain), formula), allowed_ends(*texts(chain), formula)
+            rows = random_rows(random, Rules(job.chain), job.tree)
+            s = random.randrange(chain.states)
+            for at, value in ((0, allowed.lower[s][1] + 1), (0, allowed.lower[s][0] - 1),
+                              (1, allowed.upper[s][1] + 1), (1, allowed.upper[s][0] - 1)):
+                altered = [list(row_) for row_ in rows]
+                altered[s][at] = value
+                self.assertNotEqual(judge(*texts(chain), formula, printed(altered)), [])

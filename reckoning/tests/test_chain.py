@@ -1,0 +1,165 @@
+"""Step values, weights and quotients, by other routes and in general."""
+
+import unittest
+from fractions import Fraction
+from itertools import islice
+from math import exp
+from random import Random
+
+from reckoning.bracket import Run
+from reckoning.chain import Chain, Phase, depth, quotients, step_values, until, weights
+from reckoning.tests.sheets import random_chain, random_hours, row
+
+
+def first_weights(load, count):
+    return list(islice(weights(load), count))
+
+
+def reading(chain):
+    return chain.marks[b"up"], chain.marks[b"dead"]
+
+
+def float_until(chain, first, second, hours):
+    """The until probability as a matrix power of e in floats: halve the time, add terms, square."""
+    n, halvings = chain.states, 20
+    time = hours / 1e6 / 2 ** halvings
+    inner = [first[s] and not second[s] for s in range(n)]
+    small = [[time * (chain.rates.get((a, b), 0) - (a == b) * chain.exits[a]) if inner[a] else 0.0
+              for b in range(n)] for a in range(n)]
+    term = result = [[float(a == b) for b in range(n)] for a in range(n)]
+    for k in range(1, 12):
+        term = [[value / k for value in line] for line in times(term, small)]
+        result = [[x + y for x, y in zip(*pair)] for pair in zip(result, term)]
+    for _ in range(halvings):
+        result = times(result, result)
+    return [sum(result[s][b] for b in range(n) if second[b]) for s in range(n)]
+
+
+def times(a, b):
+    columns = list(zip(*b))
+    return [[sum(x * y for x, y in zip(line, column)) for column in columns] for line in a]
+
+
+class Depth(unittest.TestCase):
+    def test_depth(self):
+        for load, want in ((0, 40), (Fraction(1, 250), 42), (1, 42), (Fraction(1_000_001, 1_000_000), 44),
+                           (64, 168), (2, 44), (Fraction(127, 2), 168)):
+            self.assertEqual(depth(Fraction(load)), want)
+
+    def test_q_is_the_whole_sheets(self):
+        chain = Chain(3, {(0, 1): 5, (1, 0): 4, (1, 2): 7}, {})
+        self.assertEqual((chain.exits, chain.q), ([5, 11, 0], 11))
+        self.assertEqual(chain.load(8), Fraction(88, 1_000_000))
+
+    def test_weights(self):
+        self.assertEqual(first_weights(Fraction(0), 3), [1, 0, 0])
+        self.assertEqual(first_weights(Fraction(1, 2), 4),
+                         [1, Fraction(1, 2), Fraction(1, 8), Fraction(1, 48)])
+
+    def test_weights_halve_from_forty_before_depth(self):
+        random = Random(1)
+        loads = [Fraction(random.randint(0, 64_000_000), 1_000_000) for _ in range(20)] + [Fraction(64)]
+        for load in loads:
+            last = first_weights(load, depth(load) + 20)[depth(load) - 40:]
+            self.assertTrue(all(2 * after <= before for before, after in zip(last, last[1:])))
+
+
+class StepValues(unittest.TestCase):
+    def test_until_by_hand(self):
+        chain = Chain(3, {(0, 1): 1, (0, 2): 1, (1, 0): 1}, {})
+        values = step_values(chain, until((True, True, False), (False, False, True), 1))
+        half, quarter = Fraction(1, 2), Fraction(1, 4)
+        self.assertEqual(list(islice(values, 4)), [[0, 0, 1], [half, 0, 1], [half, quarter, 1],
+                                                   [half + quarter / 2, half * half + quarter / 2, 1]])
+
+    def test_only_the_second_holds(self):
+        chain = row(2, 5)
+        values = list(islice(step_values(chain, until((False, False), (True, False), 1)), 3))
+        self.assertEqual(values, [[1, 0]] * 3)
+
+    def test_no_rate(self):
+        chain = Chain(3, {}, {})
+        phase = until((True, True, False), (True, False, False), 8_760)
+        self.assertEqual(list(islice(step_values(chain, phase), 3)), [[1, 0, 0]] * 3)
+        self.assertEqual(quotients(chain, phase, 50), [1, 0, 0])
+        self.assertEqual([Run(chain, phase).to(50).quotient(s) for s in range(3)], [1, 0, 0])
+
+
+class Quotients(unittest.TestCase):
+    def test_row_by_a_closed_form(self):
+        """With equal exits on the way, d moves away means: at least d moves in time."""
+        for count, rate, hours in ((2, 500, 8), (5, 300_000, 7), (6, 64_000_000, 1)):
+            chain = row(count, rate)
+            load = chain.load(hours)
+            for last in (0, 3, depth(load), depth(load) + 9):
+                all_weights = first_weights(load, last + 1)
+                want = [sum(all_weights[count - 1 - s:]) / sum(all_weights) for s in range(count)]
+                self.assertEqual(quotients(chain, until(*reading(chain), hours), last), want)
+
+    def test_two_exits_by_a_closed_form(self):
+        chain = Chain(3, {(0, 1): 200_000, (0, 2): 300_000}, {})
+        phase = until((True, False, False), (False, True, False), 3)
+        got = quotients(chain, phase, 60)[0]
+        self.assertAlmostEqual(float(got), 0.4 * (1 - exp(-1.5)), places=12)
+
+    def test_two_speeds_by_a_closed_form(self):
+        """Rates 2 and 1 in a row: 1 - 2 / e^t + 1 / e^(2 t)."""
+        chain = Chain(3, {(0, 1): 2_000_000, (1, 2): 1_000_000}, {})
+        got = quotients(chain, until((True, True, False), (False, False, True), 2), 60)[0]
+        self.assertAlmostEqual(float(got), 1 - 2 * exp(-2) + exp(-4), places=12)
+
+    def test_random_by_a_matrix(self):
+        random = Random(2)
+        for _ in range(25):
+            chain = random_chain(random)
+            hours = random_hours(random, chain)
+            last = depth(chain.load(hours))
+            run = Run(chain, until(*reading(chain), hours)).to(last)
+            want = float_until(chain, *reading(chain), hours)
+            for s in range(chain.states):
+                self.assertAlmostEqual(float(run.quotient(s)), want[s], delta=1e-9)
+
+    def test_fast_sums_are_the_papers(self):
+        random = Random(3)
+        for _ in range(25):
+            chain = random_chain(random)
+            phase = until(*reading(chain), random_hours(random, chain))
+            for last in (0, 1, 7, 45):
+                run = Run(chain, phase).to(last)
+                self.assertEqual([run.quotient(s) for s in range(chain.states)],
+                                 quotients(chain, phase, last))
+
+    def test_fast_sums_of_another_phase(self):
+        """A phase that starts from fractions and pins nothing to 1."""
+        random = Random(4)
+        for _ in range(10):
+            chain = random_chain(random)
+            start = tuple(Fraction(random.randint(0, 9), 9) for _ in range(chain.states))
+            phase = Phase(start, frozenset(), frozenset((0,)), random_hours(random, chain))
+            run = Run(chain, phase).to(12)
+            self.assertEqual([run.quotient(s) for s in range(chain.states)], quotients(chain, phase, 12))
+
+
+class Rising(unittest.TestCase):
+    def test_with_depth(self):
+        random = Random(5)
+        for _ in range(30):
+            chain = random_chain(random)
+            run = Run(chain, until(*reading(chain), random_hours(random, chain)))
+            before = [run.quotient(s) for s in range(chain.states)]
+            for last in range(1, 60):
+                run.to(last)
+                after = [run.quotient(s) for s in range(chain.states)]
+                self.assertTrue(all(a <= b for a, b in zip(before, after)))
+                before = after
+
+    def test_with_the_reading(self):
+        random = Random(6)
+        for _ in range(30):
+            chain = random_chain(random)
+            hours = random_hours(random, chain)
+            less = reading(chain)
+            more = [tuple(mark or random.random() < 0.4 for mark in marks) for marks in less]
+            runs = [Run(chain, until(*each, hours)).to(40) for each in (less, more)]
+            for s in range(chain.states):
+                self.assertLessEqual(runs[0].quotient(s), runs[1].quotient(s))

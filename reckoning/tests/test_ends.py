@@ -1,0 +1,91 @@
+"""The ends that the rules leave, and the verdicts that follow."""
+
+import unittest
+from itertools import product
+from random import Random
+
+from reckoning.bracket import BILLION
+from reckoning.chain import Chain
+from reckoning.ends import CERTAIN, IMPOSSIBLE, Ends, Rules, has, verdicts
+from reckoning.formula import COMPARISONS, P, Tt, Until
+from reckoning.tests.sheets import random_chain, random_hours, row
+from reckoning.verdict import NO, UNDECIDED, WORDS, YES, both, negate, of_ends
+
+
+def path(hours):
+    return Until(hours, Tt(), Tt())
+
+
+class Verdicts(unittest.TestCase):
+    def test_negate_and_both(self):
+        self.assertEqual([negate(word) for word in (NO, YES, UNDECIDED)], [YES, NO, UNDECIDED])
+        table = {(a, b): both(a, b) for a, b in product(WORDS, WORDS)}
+        self.assertEqual([pair for pair in table if table[pair] == YES], [(YES, YES)])
+        self.assertTrue(all((word == NO) == (NO in pair) for pair, word in table.items()))
+
+    def test_comparisons_at_the_threshold(self):
+        """Both ends p."""
+        self.assertEqual([of_ends(c, 5, 5, 5) for c in (b"<", b"<=", b">=", b">")], [NO, YES, YES, NO])
+
+    def test_comparisons_across(self):
+        for lower, upper, words in ((4, 5, {b">=": UNDECIDED, b">": NO, b"<": UNDECIDED, b"<=": YES}),
+                                    (5, 6, {b">=": YES, b">": UNDECIDED, b"<": NO, b"<=": UNDECIDED}),
+                                    (3, 4, {b">=": NO, b">": NO, b"<": YES, b"<=": YES}),
+                                    (6, 7, {b">=": YES, b">": YES, b"<": NO, b"<=": NO})):
+            for comparison, word in words.items():
+                self.assertEqual(of_ends(comparison, 5, lower, upper), word)
+
+    def test_possible_verdicts_by_trying_every_pair(self):
+        random = Random(11)
+        for _ in range(300):
+            cuts = sorted(random.randint(0, 12) for _ in range(4))
+            width = random.choice((None, random.randint(cuts[2] - cuts[1], 12)))
+            ends = Ends((cuts[0], cuts[1]), (cuts[2], cuts[3]), width)
+            node = P(random.choice(COMPARISONS), random.randint(0, 13), path(1))
+            pairs = [pair for pair in product(range(13), range(13)) if has(ends, *pair)]
+            want = {of_ends(node.comparison, node.threshold, *pair) for pair in pairs}
+            self.assertEqual(verdicts(node, ends), want)
+
+
+class StateEnds(unittest.TestCase):
+    def test_bench_value(self):
+        ends = Rules(row(2, 500)).ends(path(8), (YES, NO), (NO, YES))
+        near = Ends((3_992_011 - 168, 3_992_010), (3_992_011, 3_992_010 + 168), 168)
+        self.assertEqual(ends, [near, CERTAIN])
+
+    def test_only_the_second_holds(self):
+        self.assertEqual(Rules(row(2, 5)).ends(path(1), (NO, NO), (YES, NO)), [CERTAIN, IMPOSSIBLE])
+
+    def test_undecided_second(self):
+        ends = Rules(row(2, 500)).ends(path(8), (YES, NO), (UNDECIDED, YES))[0]
+        self.assertEqual(ends.upper, (BILLION, BILLION))
+        self.assertEqual(ends.lower, (3_991_843, 3_992_010))
+        self.assertIsNone(ends.width)
+
+    def test_undecided_first(self):
+        """Lower exactly 0, upper bound to its own reading."""
+        ends = Rules(row(2, 500)).ends(path(8), (UNDECIDED, NO), (NO, YES))[0]
+        self.assertEqual((ends.lower, ends.upper), ((0, 0), (3_992_011, 3_992_178)))
+
+    def test_load_0(self):
+        """Each end is its reading's exact value."""
+        for chain, hours in ((row(2, 500), 0), (Chain(2, {}, {}), 8_760)):
+            ends = Rules(chain).ends(path(hours), (UNDECIDED, YES), (NO, UNDECIDED))
+            self.assertEqual([e[:2] for e in ends], [((0, 0), (0, 0)), ((0, 0), (BILLION, BILLION))])
+
+    def test_one_undecided_state_frees_all(self):
+        chain = row(4, 500)
+        free = Rules(chain).ends(path(8), (YES, YES, YES, UNDECIDED), (NO, NO, NO, YES))
+        bound = Rules(chain).ends(path(8), (YES, YES, YES, YES), (NO, NO, NO, YES))
+        self.assertEqual([e.width for e in free[:3]], [None] * 3)
+        self.assertEqual([e.width for e in bound[:3]], [168] * 3)
+
+    def test_nearest_pair_is_always_left(self):
+        random = Random(12)
+        for _ in range(60):
+            chain = random_chain(random)
+            vectors = [tuple(random.choice(WORDS) for _ in range(chain.states)) for _ in range(2)]
+            for ends in Rules(chain).ends(path(random_hours(random, chain)), *vectors):
+                self.assertTrue(has(ends, ends.lower[1], ends.upper[0]))
+                self.assertTrue(has(ends, ends.lower[0], ends.upper[0]))
+                self.assertTrue(has(ends, ends.lower[1], ends.upper[1]))

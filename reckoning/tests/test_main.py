@@ -1,0 +1,43 @@
+"""The three commands."""
+
+import subprocess
+import sys
+import tempfile
+import unittest
+from pathlib import Path
+
+from reckoning.tests.sheets import LABELS, MOVES
+
+ROOT = Path(__file__).resolve().parents[2]
+FORMULA = b"P <= 10000000 U 8 up dead\n"
+PRINT = (b"state,lower,upper,depth,verdict\n0,3992010,3992011,42,yes\n"
+         b"1,1000000000,1000000000,42,no\n")
+
+
+class Commands(unittest.TestCase):
+    def run_with(self, command, printed=b"", **texts):
+        with tempfile.TemporaryDirectory() as folder:
+            for name, text in texts.items():
+                (Path(folder) / f"{name}.txt").write_bytes(text)
+            done = subprocess.run([sys.executable, "-m", "reckoning", command, folder], input=printed,
+                                  stdout=subprocess.PIPE, stderr=subprocess.PIPE, cwd=ROOT)
+        return done.returncode, done.stdout.decode()
+
+    def test_judge(self):
+        sheet = dict(moves=MOVES, labels=LABELS, formula=FORMULA)
+        self.assertEqual(self.run_with("judge", PRINT, **sheet), (0, "allowed\n"))
+        status, told = self.run_with("judge", PRINT.replace(b"yes", b"no"), **sheet)
+        self.assertEqual((status, told), (1, "state 0: verdict no does not follow from the ends\n"))
+
+    def test_refusal(self):
+        sheet = dict(moves=MOVES, labels=LABELS, formula=FORMULA)
+        self.assertEqual(self.run_with("refusal", **sheet), (0, "accepted\n"))
+        self.assertEqual(self.run_with("refusal", moves=MOVES, labels=LABELS), (0, "1\n"))
+        self.assertEqual(self.run_with("judge", b"refused\n1\n"), (0, "allowed\n"))
+
+    def test_ends(self):
+        status, told = self.run_with("ends", moves=MOVES, labels=LABELS, formula=FORMULA)
+        self.assertEqual((status, told.splitlines()), (0, [
+            "depth 42, width 168",
+            "0: lower 3991843 to 3992010, upper 3992011 to 3992178, yes",
+            "1: lower 1000000000 to 1000000000, upper 1000000000 to 1000000000, no"]))
