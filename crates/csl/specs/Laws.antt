@@ -1,9 +1,11 @@
 -- What follows from the definitions, one file for each thing spoken of.
+pub mod Computing
 pub mod Sum
 pub mod Fraction
 pub mod Steps
 pub mod Quotient
 pub mod Point
+pub mod Readings
 pub mod Tail
 pub mod Complement
 pub mod Ends
@@ -13,5 +15,9 @@ pub mod Judging
 pub mod Agree
 pub mod Settled
 pub mod Throughout
+pub mod Report
 pub mod Backing
 pub mod SummedEnds
+pub mod Bench
+pub mod EightHours
+pub mod Examples

@@ -19,4 +19,6 @@ pub mod Report
 pub mod Lent
 pub mod Refusal
 pub mod Finished
+pub mod Bench
+pub mod Theorems
 pub mod Laws

@@ -37,7 +37,7 @@ pub record PlainReport (c : Chain) (f : Formula) (lower upper : ℕ → ℕ) (v 
   pub uppers : AtEach c λ s. upper s ≡ upperOf (v s)
 
 -- the ends and verdicts of a report that has a backing; "for the outermost node the report's own"
-unfoldable pub Reported : Chain → Formula → (lower upper : ℕ → ℕ) → (ℕ → Verdict) → Type 0
+abbrev pub Reported : Chain → Formula → (lower upper : ℕ → ℕ) → (ℕ → Verdict) → Type 0
 Reported c always lower upper v = PlainReport c always lower upper v
 Reported c (label w) lower upper v = PlainReport c (label w) lower upper v
 Reported c (negated a) lower upper v = PlainReport c (negated a) lower upper v

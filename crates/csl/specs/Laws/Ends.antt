@@ -11,7 +11,7 @@ use Rattle.csl.specs.Verdicts.{Verdict, No, Yes, Undecided, Agrees, Read
 use Rattle.csl.specs.Ends.{EndsAt, AllDecided, slack, lowQuotient, highQuotient}
 use Rattle.csl.specs.Laws.Fraction.{Under, under-right, below-trans}
 use Rattle.csl.specs.Laws.Quotient.{until-is, until-le, until-rises}
-use Rattle.csl.specs.Laws.Point.{step-one, step-nil, quotient-ge, quotient-nil, quotient-first}
+use Rattle.csl.specs.Laws.Point.{step-empty, step-one, step-nil, quotient-ge, quotient-nil, quotient-first}
 
 -- where the second operand holds the quotients are 1
 pub until-one : (c : Chain) (t : ℕ) (a b : ℕ → Bool) (s : ℕ) → s < c .states → b s ≡ true → (n : ℕ)
@@ -75,3 +75,11 @@ module _ (c : Chain) (t : ℕ) (v w : ℕ → Verdict) (s lower upper : ℕ) (in
       = le-of-mul-le-mul-right {k = low .bottom} (omega (arith, e .lower-side d (le-refl d)))
       (until-is c t (least v) (least w) s d) in
       omega arith
+
+-- where the second operand holds nowhere the quotients are 0
+pub until-nowhere : (c : Chain) (t : ℕ) (a b : ℕ → Bool) → ((s : ℕ) → s < c .states → b s ≡ false) → (s n : ℕ) → s < c .states
+    → untilQuotient c t a b s n .top ≡ 0
+until-nowhere c t a b h s n l =
+    let z : (k : ℕ) → stepTop c (untilPhase a b) k s ≡ 0
+    = λ k. omega (arith, step-empty c (untilPhase a b) h (λ u m. rw (h u m)) k s l) in
+    quotient-nil (load c t) (stepValue c (untilPhase a b) s) z n

@@ -9,6 +9,7 @@ use Rattle.csl.specs.Fraction.{Fraction, frac, IsFraction, Below, Same, 
 use Rattle.csl.specs.Chain.{Chain, load, topRate}
 use Rattle.csl.specs.Phase.{Phase, untilPhase, divisor, moved, stepped, stepTop, stepValue, weight, quotient, untilQuotient}
 use Rattle.csl.specs.Laws.Fraction.{below-sum}
+use Rattle.csl.specs.Laws.Steps.{moved-le}
 
 -- pinned to 1 from the start: 1 at every step
 stepped-one : (still nil : Bool) (before u sum q : ℕ) → before ≡ u → stepped still true nil before (u * cond still 1 q) sum ≡ u * cond still 1 q
@@ -69,3 +70,18 @@ quotient-first l v e n =
     let h : Same x (times (frac 1 1) (v 0)) = sum-first (λ k. times (weight l k) (v k)) (λ k. rw (weight-nil l e k) (omega arith)) n in
     let k : Same w (frac 1 1) = sum-first (weight l) (weight-nil l e) n in
     omega (arith, ap (λ (y : ℕ). y * w .bottom) h, ap (λ (y : ℕ). y * (v 0 .top * x .bottom)) k)
+
+-- where no state starts above 0 and none is pinned to 1: 0 at every step
+stepped-empty : (still nil : Bool) (before u sum : ℕ) → before ≤ 0 → sum ≤ 0 → stepped still false nil before u sum ≤ 0
+stepped-empty true nil before u sum h k = h
+stepped-empty false true before u sum h k = omega arith
+stepped-empty false false before u sum h k = k
+
+pub step-empty : (c : Chain) (ph : Phase) → ((s : ℕ) → s < c .states → ph .one s ≡ false) → ((s : ℕ) → s < c .states → ph .start s ≡ 0)
+    → (k s : ℕ) → s < c .states → stepTop c ph k s ≤ 0
+unfolding stepTop
+step-empty c ph o e zero s l = omega (arith, e s l)
+step-empty c ph o e (suc k) s l =
+    rw (o s l)
+    (stepped-empty (eqb (topRate c) 0) (ph .nil s) _ _ _ (step-empty c ph o e k s l)
+    (omega (arith, moved-le c (stepTop c ph k) 0 s (step-empty c ph o e k) l)))

@@ -12,7 +12,7 @@ use Rattle.csl.specs.Ends.{EndsAt, AllDecided, slack, lowQuotient, highQ
 use Rattle.csl.specs.Laws.Quotient.{until-is}
 use Rattle.csl.specs.Laws.Ends.{until-one, until-nil, until-still}
 
-yes-or-no : {x : Verdict} {A : Type 0} → x ≡ Yes → x ≡ No → A
+pub yes-or-no : {x : Verdict} {A : Type 0} → x ≡ Yes → x ≡ No → A
 yes-or-no {x} h k = let z : _≡_ {A = ℕ} 0 1 = cc in absurd (omega arith)
 
 module _ (c : Chain) (t : ℕ) (v w : ℕ → Verdict) (s : ℕ) (in-range : s < c .states) where

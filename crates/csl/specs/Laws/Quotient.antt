@@ -10,7 +10,7 @@ use Rattle.csl.specs.Phase.{Phase, bit, untilPhase, divisor, stepTop, st
 use Rattle.csl.specs.Verdicts.{Verdict, No, Yes, Undecided, Agrees, Reading, asNo, asYes, least, most}
 use Rattle.csl.specs.Ends.{lowQuotient, highQuotient}
 use Rattle.csl.specs.Laws.Fraction.{Under, under-sum, under-times, under-over, below-sum, times-below, sum-is, sum-some}
-use Rattle.csl.specs.Laws.Steps.{Starts, PhaseUnder, step-le, step-rises, unit-some}
+use Rattle.csl.specs.Laws.Steps.{Starts, PhaseUnder, step-le, step-rises, divisor-some}
 
 pub weight-is : (l : Fraction) → IsFraction l → (k : ℕ) → IsFraction (weight l k)
 unfolding weight
@@ -20,6 +20,11 @@ weight-is l p (suc k) = let s : 0 < suc k = omega arith in mul-pos (mul-pos (wei
 weight-some : (l : Fraction) → 0 < weight l 0 .top
 unfolding weight
 weight-some l = omega arith
+
+-- the sum of the weights is above 0
+pub weights-some : (c : Chain) (t n : ℕ) → 0 < sumUp (weight (load c t)) n .top
+unfolding load
+weights-some c t n = sum-some (weight (load c t)) (weight-is (load c t) (omega arith)) (weight-some (load c t)) n
 
 pub quotient-is : (l : Fraction) (v : ℕ → Fraction) → IsFraction l → ((k : ℕ) → IsFraction (v k)) → (n : ℕ) → IsFraction (quotient l v n)
 unfolding quotient
@@ -75,7 +80,7 @@ until-under c a b a' b' h k =
 pub until-is : (c : Chain) (t : ℕ) (a b : ℕ → Bool) (s n : ℕ) → IsFraction (untilQuotient c t a b s n)
 unfolding load
 until-is c t a b s n =
-    quotient-is (load c t) (stepValue c (untilPhase a b) s) (omega arith) (λ k. unit-some c 1 (omega arith) k) n
+    quotient-is (load c t) (stepValue c (untilPhase a b) s) (omega arith) (λ k. divisor-some c 1 (omega arith) k) n
 
 pub until-le : (c : Chain) (t : ℕ) (a b : ℕ → Bool) (s n : ℕ) → s < c .states
     → untilQuotient c t a b s n .top ≤ untilQuotient c t a b s n .bottom

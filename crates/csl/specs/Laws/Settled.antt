@@ -1,4 +1,4 @@
--- T2: every truth table that obeys CSL's rules agrees with every backing. T3: a backing with nothing undecided is such a table. Assumes nothing.
+-- tables-agree: every truth table that obeys CSL's rules agrees with every backing. verdicts-obey: a backing with nothing undecided is such a table. Assumes nothing.
 use mathlib.Core.Path.{_≡_, refl, ap, _∙_}
 use mathlib.Core.Bool.{Bool, true, false, not, _&&_}
 use Prim.Native.Nat.{ℕ, _<_}
@@ -27,8 +27,8 @@ until-agrees c r p t v w x y s lower upper b l e h k o =
     entry-agrees (untilQuotient c t x y s) (until-is c t x y s) r p (judged r p lower upper) b
     (until-settles c r p t v w x y s lower upper l e h k) o
 
-pub T2 : (c : Chain) (f : Formula) (v : ℕ → Verdict) (b : ℕ → Bool) → Backed c f v → Obeys c f b → Reading (c .states) v b
-T2 c f v b k o = agrees c (until-agrees c) f v b k o
+pub tables-agree : (c : Chain) (f : Formula) (v : ℕ → Verdict) (b : ℕ → Bool) → Backed c f v → Obeys c f b → Reading (c .states) v b
+tables-agree c f v b k o = agrees c (until-agrees c) f v b k o
 
 as-no-reads : (v : Verdict) → Agrees v (asNo v)
 unfolding Agrees
@@ -58,31 +58,31 @@ root c (negated a) v k d = d .0
 root c (both a e) v k d = d .0
 root c (until r p t a e) v k d = d .0
 
-pub T3 : (c : Chain) (f : Formula) (v : ℕ → Verdict) (k : Backed c f v) → NothingUndecided c f v k → Obeys c f (λ s. asNo (v s))
+pub verdicts-obey : (c : Chain) (f : Formula) (v : ℕ → Verdict) (k : Backed c f v) → NothingUndecided c f v k → Obeys c f (λ s. asNo (v s))
 unfolding Backed NothingUndecided Obeys
-T3 c always v k d = λ s l. rw (k s l)
-T3 c (label name) v k d = λ s l. rw (k s l) (as-no-mark (c .mark name s))
-T3 c (negated a) v k d =
+verdicts-obey c always v k d = λ s l. rw (k s l)
+verdicts-obey c (label name) v k d = λ s l. rw (k s l) (as-no-mark (c .mark name s))
+verdicts-obey c (negated a) v k d =
     record {
       first = λ s. asNo (k .first s);
-      first-obeys = T3 c a _ (k .first-backed) (d .1);
+      first-obeys = verdicts-obey c a _ (k .first-backed) (d .1);
       entry = λ s l. rw (k .verdict s l) (as-no-not (k .first s) (root c a _ (k .first-backed) (d .1) s l));
     }
-T3 c (both a e) v k d =
+verdicts-obey c (both a e) v k d =
     record {
       first = λ s. asNo (k .first s);
-      first-obeys = T3 c a _ (k .first-backed) (d .1);
+      first-obeys = verdicts-obey c a _ (k .first-backed) (d .1);
       second = λ s. asNo (k .second s);
-      second-obeys = T3 c e _ (k .second-backed) (d .2);
+      second-obeys = verdicts-obey c e _ (k .second-backed) (d .2);
       entry = λ s l. rw (k .verdict s l)
           (as-no-and (k .first s) (k .second s) (root c a _ (k .first-backed) (d .1) s l) (root c e _ (k .second-backed) (d .2) s l));
     }
-T3 c (until r p t a e) v k d =
+verdicts-obey c (until r p t a e) v k d =
     record {
       first = λ s. asNo (k .keeps .first s);
-      first-obeys = T3 c a _ (k .keeps .first-backed) (d .1);
+      first-obeys = verdicts-obey c a _ (k .keeps .first-backed) (d .1);
       second = λ s. asNo (k .keeps .second s);
-      second-obeys = T3 c e _ (k .keeps .second-backed) (d .2);
+      second-obeys = verdicts-obey c e _ (k .keeps .second-backed) (d .2);
       entry = λ s l. rw (k .keeps .verdict s l)
           (entry-obeys _ r p _ (rw (k .keeps .verdict s l) at (d .0 s l))
           (until-settles c r p t (k .keeps .first) (k .keeps .second) _ _ s (k .lower s) (k .upper s) l (k .keeps .ends s l)

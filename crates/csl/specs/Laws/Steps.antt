@@ -19,10 +19,10 @@ pace-some : (q : ℕ) (still : Bool) → eqb q 0 ≡ still → 0 < cond still 1 
 pace-some q true e = omega arith
 pace-some q false e = let n : q ≡ 0 → ⊥ = eqb-false q 0 e in omega arith
 
-pub unit-some : (c : Chain) (w : ℕ) → 0 < w → (k : ℕ) → 0 < divisor c w k
+pub divisor-some : (c : Chain) (w : ℕ) → 0 < w → (k : ℕ) → 0 < divisor c w k
 unfolding divisor
-unit-some c w p zero = p
-unit-some c w p (suc k) = mul-pos (unit-some c w p k) (pace-some (topRate c) (eqb (topRate c) 0) refl)
+divisor-some c w p zero = p
+divisor-some c w p (suc k) = mul-pos (divisor-some c w p k) (pace-some (topRate c) (eqb (topRate c) 0) refl)
 
 pub moved-rises : (c : Chain) (v w : ℕ → ℕ) (s : ℕ) → ((t : ℕ) → t < c .states → v t ≤ w t) → s < c .states → moved c v s ≤ moved c w s
 unfolding moved

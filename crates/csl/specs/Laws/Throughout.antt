@@ -1,4 +1,4 @@
--- T2 at every node; and two backings never stand against each other. Assumes nothing.
+-- tables-agree at every node; and two backings never stand against each other. Assumes nothing.
 use mathlib.Core.Path.{_≡_, refl, ap, sym, _∙_}
 use mathlib.Core.Bool.{Bool, true, false, not, _&&_, _||_, true≢false}
 use Prim.Native.Nat.{ℕ, _<_}
@@ -12,17 +12,17 @@ use Rattle.csl.specs.Truth.{Throughout, Obeys, NotTrue, BothTrue, UntilT
 use Rattle.csl.specs.Laws.Quotient.{until-is}
 use Rattle.csl.specs.Laws.Judging.{Settles, apart}
 use Rattle.csl.specs.Laws.Agree.{agrees-mark, agrees-not, agrees-and}
-use Rattle.csl.specs.Laws.Settled.{T2, until-settles}
+use Rattle.csl.specs.Laws.Settled.{tables-agree, until-settles}
 
 pub throughout : (c : Chain) (f : Formula) (v : ℕ → Verdict) (b : ℕ → Bool) (k : Backed c f v) (o : Obeys c f b) → Throughout c f v b k o
 unfolding Backed Obeys Throughout
-throughout c always v b k o = T2 c always v b k o
-throughout c (label name) v b k o = T2 c (label name) v b k o
-throughout c (negated a) v b k o = (T2 c (negated a) v b k o, throughout c a _ _ (k .first-backed) (o .first-obeys))
+throughout c always v b k o = tables-agree c always v b k o
+throughout c (label name) v b k o = tables-agree c (label name) v b k o
+throughout c (negated a) v b k o = (tables-agree c (negated a) v b k o, throughout c a _ _ (k .first-backed) (o .first-obeys))
 throughout c (both a e) v b k o =
-    (T2 c (both a e) v b k o, throughout c a _ _ (k .first-backed) (o .first-obeys), throughout c e _ _ (k .second-backed) (o .second-obeys))
+    (tables-agree c (both a e) v b k o, throughout c a _ _ (k .first-backed) (o .first-obeys), throughout c e _ _ (k .second-backed) (o .second-obeys))
 throughout c (until r p t a e) v b k o = (
-  T2 c (until r p t a e) v b k o,
+  tables-agree c (until r p t a e) v b k o,
   throughout c a _ _ (k .keeps .first-backed) (o .first-obeys),
   throughout c e _ _ (k .keeps .second-backed) (o .second-obeys),
 )

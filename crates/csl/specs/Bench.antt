@@ -1,0 +1,91 @@
+-- Document 01's bench values: the jobs, and what is said of them. `Laws.Bench` shows it. Assumes nothing.
+use mathlib.Core.Path.{_≡_}
+use Prim.Native.Nat.{ℕ, zero, suc, _+_, _≤_}
+use Prim.Native.String.{String}
+use mathlib.Core.Option.{Option, some}
+use Rattle.csl.specs.Text.{Text, bytes}
+use Rattle.csl.specs.Limits.{billion, mostNodes}
+use Rattle.csl.specs.Formula.{Formula, always, label, negated, both, until, Comparison, AtMost, AtLeast}
+use Rattle.csl.specs.Chain.{Chain, topRate, depth}
+use Rattle.csl.specs.Verdicts.{Verdict, Yes}
+use Rattle.csl.specs.Backing.{AtEach}
+use Rattle.csl.specs.Report.{Reported, reportText, depthOf}
+use Rattle.csl.specs.Lent.{Buffers, needed}
+use Rattle.csl.specs.Refusal.{Job, jobStates, jobChain, jobFormula, refusal, outcome, Outcome, accepted}
+
+-- a job over the labels of the small sheet
+abbrev pub jobOf : String → String → Job
+jobOf moves formula =
+    record { moves = bytes moves; labels = bytes "state,up,dead\n0,1,0\n1,0,1\n"; formula = bytes formula }
+
+-- "labels `state,up,dead` / `0,1,0` / `1,0,1`, moves `from,to,rate` / `0,1,500` .. Call these two texts the small sheet."
+abbrev pub small : String → Job
+small formula = jobOf "from,to,rate\n0,1,500\n" formula
+
+-- "q 64,000,000"; "No moves"
+abbrev pub fast : String → Job
+fast formula = jobOf "from,to,rate\n0,1,64000000\n" formula
+
+abbrev pub still : String → Job
+still formula = jobOf "from,to,rate\n" formula
+
+abbrev pub up : Formula
+up = label (bytes "up")
+
+abbrev pub dead : Formula
+dead = label (bytes "dead")
+
+-- lent lengths that do for two states, one move and any formula
+abbrev pub enough : Buffers ℕ
+enough = needed 2 1 mostNodes
+
+-- accepted, with this formula, q and depth
+abbrev pub Accepts : Job → Formula → ℕ → ℕ → Type 0
+Accepts j f q d = outcome j enough ≡ accepted (jobChain j) f q d
+
+abbrev pub Refuses : Job → ℕ → Type 0
+Refuses j number = refusal j enough ≡ some number
+
+-- every report that has a backing is printed so
+abbrev pub Prints : Job → String → Type 0
+Prints j text = (lower upper : ℕ → ℕ) (v : ℕ → Verdict) → Reported (jobChain j) (jobFormula j) lower upper v
+    → reportText (jobStates j) lower upper (depthOf (jobChain j) (jobFormula j)) v ≡ bytes text
+
+-- so many `!` before a formula
+unfoldable pub negatedTimes : ℕ → Formula → Formula
+negatedTimes zero f = f
+negatedTimes (suc k) f = negated (negatedTimes k f)
+
+-- The starred values.
+pub record BenchValues : Type 0 where
+  -- "The small sheet as printed above."
+  pub small-accepted : Accepts (small "P >= 1000000000 U 0 up dead\n") (until AtLeast 1000000000 0 up dead) 500 40
+  pub small-printed : Prints (small "P >= 1000000000 U 0 up dead\n")
+      "state,lower,upper,depth,verdict\n0,0,0,40,no\n1,1000000000,1000000000,40,yes\n"
+  -- "`tt`: yes twice, depth 0." "`& up ! dead`: yes, no."
+  pub tt-printed : Prints (small "tt\n")
+      "state,lower,upper,depth,verdict\n0,1000000000,1000000000,0,yes\n1,1000000000,1000000000,0,yes\n"
+  pub both-printed : Prints (small "& up ! dead\n")
+      "state,lower,upper,depth,verdict\n0,1000000000,1000000000,0,yes\n1,0,0,0,no\n"
+  -- "`P <= 10000000 U 8 up dead`: .. depth 42"
+  pub eight-hours : Accepts (small "P <= 10000000 U 8 up dead\n") (until AtMost 10000000 8 up dead) 500 42
+  -- "q 64,000,000 and 1 hour: depth 168. 2 hours: 14."
+  pub full-load : Accepts (fast "P >= 5 U 1 up dead\n") (until AtLeast 5 1 up dead) 64000000 168
+  pub over-load : Refuses (fast "P >= 5 U 2 up dead\n") 14
+  -- "No moves, 8,760 hours: q = 0, depth 40, ends 0 or 1,000,000,000."
+  pub no-moves : Accepts (still "P >= 5 U 8760 up dead\n") (until AtLeast 5 8760 up dead) 0 40
+  pub no-moves-printed : Prints (still "P >= 5 U 8760 up dead\n")
+      "state,lower,upper,depth,verdict\n0,0,0,40,no\n1,1000000000,1000000000,40,yes\n"
+  -- "15 `!` before `up`: accepted. 16: 11."
+  pub fifteen : Accepts (small "! ! ! ! ! ! ! ! ! ! ! ! ! ! ! up\n") (negatedTimes 15 up) 500 0
+  pub sixteen : Refuses (small "! ! ! ! ! ! ! ! ! ! ! ! ! ! ! ! up\n") 11
+  -- "`P >= 0 U 1 up dead`: yes everywhere", and so on every chain, for all hours and operands
+  pub at-least-0 : (c : Chain) (t : ℕ) (a b : Formula) (lower upper : ℕ → ℕ) (v : ℕ → Verdict)
+      → Reported c (until AtLeast 0 t a b) lower upper v → AtEach c λ s. v s ≡ Yes
+
+-- "`P <= 10000000 U 8 up dead`: .. lower ≤ 3,992,010, upper ≥ 3,992,011, width ≤ 168, yes at state 0", of every report
+pub record EightHours (lower upper : ℕ → ℕ) (v : ℕ → Verdict) : Type 0 where
+  pub low : lower 0 ≤ 3992010
+  pub high : 3992011 ≤ upper 0
+  pub narrow : upper 0 ≤ lower 0 + 168
+  pub verdict : v 0 ≡ Yes

@@ -1,0 +1,122 @@
+-- The starred bench values hold. Assumes nothing.
+use mathlib.Core.Path.{_≡_, refl, ap, sym, _∙_}
+use mathlib.Core.Bool.{Bool, true, false, cond}
+use Prim.Native.Nat.{ℕ, zero, suc, _+_, _*_, _≤_, _<_}
+use mathlib.Core.List.{_++_}
+use native.Mathlib.Omega.{arith}
+use lib.Dec.{leb·zero}
+use Rattle.csl.specs.Text.{Text, bytes}
+use Rattle.csl.specs.Limits.{billion}
+use Rattle.csl.specs.Formula.{Formula, always, label, negated, both, until, Comparison, AtLeast}
+use Rattle.csl.specs.Chain.{Chain, topRate}
+use Rattle.csl.specs.Verdicts.{Verdict, No, Yes, Undecided, marked, negation, conjunction, judged, asNo, asYes}
+use Rattle.csl.specs.Ends.{EndsAt}
+use Rattle.csl.specs.Backing.{AtEach, Backed, UntilBacked}
+use Rattle.csl.specs.Report.{Reported, lowerOf, upperOf, rowText, rowsText, reportText}
+use Rattle.csl.specs.Refusal.{jobChain}
+use Rattle.csl.specs.Bench.{small, still, up, dead, negatedTimes, Prints, BenchValues}
+use Rattle.csl.specs.Laws.Computing.{computing}
+use Rattle.csl.specs.Laws.PointEnds.{still-lower, still-upper}
+
+-- a row of a report
+pub record Row (lower upper : ℕ → ℕ) (v : ℕ → Verdict) (s a b : ℕ) (x : Verdict) : Type 0 where
+  pub lower-is : lower s ≡ a
+  pub upper-is : upper s ≡ b
+  pub verdict-is : v s ≡ x
+
+-- the ends where the second operand is marked or not
+abbrev endOf : Bool → ℕ
+endOf b = billion * cond b 1 0
+
+as-no-end : (b : Bool) → billion * cond (asNo (marked b)) 1 0 ≡ endOf b
+as-no-end true = refl
+as-no-end false = refl
+
+as-yes-end : (b : Bool) → billion * cond (asYes (marked b)) 1 0 ≡ endOf b
+as-yes-end true = refl
+as-yes-end false = refl
+
+-- with load 0 the ends of an until over labels are 0 or 1, as the second is marked
+still-row : (c : Chain) (r : Comparison) (p t : ℕ) (x y : Text) (lower upper : ℕ → ℕ) (v : ℕ → Verdict) → topRate c * t ≡ 0
+    → Reported c (until r p t (label x) (label y)) lower upper v → (s : ℕ) → s < c .states
+    → (b : Bool) → c .mark y s ≡ b → Row lower upper v s (endOf b) (endOf b) (judged r p (endOf b) (endOf b))
+unfolding Backed
+still-row c r p t x y lower upper v z k s l b e =
+    let d : k .second s ≡ marked b = k .second-backed s l ∙ ap marked e in
+    let low : lower s ≡ endOf b = still-lower c t _ _ s l _ _ z (k .ends s l) ∙ rw d (as-no-end b) in
+    let high : upper s ≡ endOf b = still-upper c t _ _ s l _ _ z (k .ends s l) ∙ rw d (as-yes-end b) in
+    record { lower-is = low; upper-is = high; verdict-is = k .verdict s l ∙ rw (low, high) }
+
+-- `tt`, and `&` of a label and `!` of another
+always-row : (c : Chain) (lower upper : ℕ → ℕ) (v : ℕ → Verdict) → Reported c always lower upper v → (s : ℕ) → s < c .states
+    → Row lower upper v s billion billion Yes
+unfolding Backed
+always-row c lower upper v k s l =
+    let e : v s ≡ Yes = k .backed s l in
+    record { lower-is = k .lowers s l ∙ rw e; upper-is = k .uppers s l ∙ rw e; verdict-is = e }
+
+and-not-row : (c : Chain) (x y : Text) (lower upper : ℕ → ℕ) (v : ℕ → Verdict)
+    → Reported c (both (label x) (negated (label y))) lower upper v → (s : ℕ) → s < c .states
+    → (a b : Bool) → c .mark x s ≡ a → c .mark y s ≡ b → (w : Verdict) → conjunction (marked a) (negation (marked b)) ≡ w
+    → Row lower upper v s (lowerOf w) (upperOf w) w
+unfolding Backed
+and-not-row c x y lower upper v k s l a b h j w i =
+    let e : v s ≡ w
+    = k .backed .verdict s l
+    ∙ rw (k .backed .first-backed s l, k .backed .second-backed .verdict s l, k .backed .second-backed .first-backed s l, h, j) i in
+    record { lower-is = k .lowers s l ∙ rw e; upper-is = k .uppers s l ∙ rw e; verdict-is = e }
+
+-- a listing of two rows
+two-rows : (lower upper : ℕ → ℕ) (v : ℕ → Verdict) (d a b : ℕ) (x : Verdict) (a' b' : ℕ) (x' : Verdict)
+    → Row lower upper v 0 a b x → Row lower upper v 1 a' b' x'
+    → reportText 2 lower upper d v ≡ bytes "state,lower,upper,depth,verdict\n" ++ (rowText 0 a b d x ++ rowText 1 a' b' d x')
+unfolding reportText rowsText
+two-rows lower upper v d a b x a' b' x' h k =
+    rw (h .lower-is, h .upper-is, h .verdict-is, k .lower-is, k .upper-is, k .verdict-is) refl
+
+small-prints : Prints (small "P >= 1000000000 U 0 up dead\n")
+    "state,lower,upper,depth,verdict\n0,0,0,40,no\n1,1000000000,1000000000,40,yes\n"
+unfolding computing
+small-prints lower upper v k =
+    let row = still-row (jobChain (small "P >= 1000000000 U 0 up dead\n")) AtLeast billion 0 (bytes "up") (bytes "dead") lower upper v refl k in
+    two-rows lower upper v 40 0 0 No billion billion Yes (row 0 (omega arith) false refl) (row 1 (omega arith) true refl)
+
+no-moves-prints : Prints (still "P >= 5 U 8760 up dead\n")
+    "state,lower,upper,depth,verdict\n0,0,0,40,no\n1,1000000000,1000000000,40,yes\n"
+unfolding computing
+no-moves-prints lower upper v k =
+    let row = still-row (jobChain (still "P >= 5 U 8760 up dead\n")) AtLeast 5 8760 (bytes "up") (bytes "dead") lower upper v refl k in
+    two-rows lower upper v 40 0 0 No billion billion Yes (row 0 (omega arith) false refl) (row 1 (omega arith) true refl)
+
+tt-prints : Prints (small "tt\n")
+    "state,lower,upper,depth,verdict\n0,1000000000,1000000000,0,yes\n1,1000000000,1000000000,0,yes\n"
+unfolding computing
+tt-prints lower upper v k =
+    let row = always-row (jobChain (small "tt\n")) lower upper v k in
+    two-rows lower upper v 0 billion billion Yes billion billion Yes (row 0 (omega arith)) (row 1 (omega arith))
+
+both-prints : Prints (small "& up ! dead\n")
+    "state,lower,upper,depth,verdict\n0,1000000000,1000000000,0,yes\n1,0,0,0,no\n"
+unfolding computing
+both-prints lower upper v k =
+    let row = and-not-row (jobChain (small "& up ! dead\n")) (bytes "up") (bytes "dead") lower upper v k in
+    two-rows lower upper v 0 billion billion Yes 0 0 No (row 0 (omega arith) true false refl refl Yes refl)
+    (row 1 (omega arith) false true refl refl No refl)
+
+pub bench-values : BenchValues
+unfolding computing negatedTimes
+bench-values =
+    record {
+      small-accepted = refl;
+      small-printed = small-prints;
+      tt-printed = tt-prints;
+      both-printed = both-prints;
+      eight-hours = refl;
+      full-load = refl;
+      over-load = refl;
+      no-moves = refl;
+      no-moves-printed = no-moves-prints;
+      fifteen = refl;
+      sixteen = refl;
+      at-least-0 = λ c t a b lower upper v k s l. k .verdict s l ∙ rw (leb·zero (lower s));
+    }

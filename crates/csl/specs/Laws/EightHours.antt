@@ -1,0 +1,140 @@
+-- `U 8 up dead` on the small sheet: the quotients from D = 42 on lie from 3,992,010 to 3,992,011 billionths. Assumes nothing.
+use mathlib.Core.Path.{_≡_, refl, ap, sym, _∙_}
+use mathlib.Core.Bool.{Bool, true, false}
+use Prim.Native.Nat.{ℕ, zero, suc, _+_, _*_, _-_, _≤_, _<_}
+use native.Mathlib.Omega.{arith}
+use native.Mathlib.Nat.{lt-of-mul-lt-mul-right, le-of-lt}
+use lib.Dec.{lit<}
+use borrow.Author.Tests.{le-ltb, le-leb}
+use Rattle.csl.specs.Text.{bytes}
+use Rattle.csl.specs.Formula.{until, AtMost}
+use Rattle.csl.specs.Fraction.{Fraction, IsFraction, Below, times, over, plus, sumUp, billionths}
+use Rattle.csl.specs.Chain.{Chain, load, depth}
+use Rattle.csl.specs.Phase.{Phase, untilPhase, stepValue, quotient, untilQuotient, weight}
+use Rattle.csl.specs.Verdicts.{Verdict, Yes, judged}
+use Rattle.csl.specs.Ends.{EndsAt}
+use Rattle.csl.specs.Backing.{Backed}
+use Rattle.csl.specs.Report.{Reported}
+use Rattle.csl.specs.Refusal.{jobChain}
+use Rattle.csl.specs.Bench.{small, up, dead, EightHours}
+use Rattle.csl.specs.Laws.Computing.{computing}
+use Rattle.csl.specs.Laws.Fraction.{below-trans}
+use Rattle.csl.specs.Laws.Steps.{divisor-some}
+use Rattle.csl.specs.Laws.Readings.{marks-decided, low-marks, high-marks}
+use Rattle.csl.specs.Laws.Tail.{Light, light-from, later}
+use Rattle.csl.specs.Laws.Complement.{complement, upper-left, until-share}
+
+abbrev pub sheet : Chain
+sheet = jobChain (small "P <= 10000000 U 8 up dead\n")
+
+abbrev pub isUp : ℕ → Bool
+isUp = sheet .mark (bytes "up")
+
+abbrev pub isDead : ℕ → Bool
+isDead = sheet .mark (bytes "dead")
+
+-- the quotient at D
+abbrev pub atDepth : Fraction
+atDepth = untilQuotient sheet 8 isUp isDead 0 42
+
+pub under-end : atDepth .top * 1000000000 < 3992011 * atDepth .bottom
+unfolding computing
+under-end = lit< tt
+
+pub over-end : 3992010 * atDepth .bottom < atDepth .top * 1000000000
+unfolding computing
+over-end = lit< tt
+
+-- what is summed to D, over all weights to D and the last once more: at most every later quotient
+abbrev pub summed : (ℕ → Fraction) → Fraction
+summed v = over (sumUp (λ k. times (weight (load sheet 8) k) (v k)) 42) (plus (sumUp (weight (load sheet 8)) 42) (weight (load sheet 8) 42))
+
+abbrev pub kept : Fraction
+kept = summed (stepValue sheet (untilPhase isUp isDead) 0)
+
+abbrev pub missed : Fraction
+missed = summed (stepValue sheet (complement (untilPhase isUp isDead)) 0)
+
+kept-least : 3992010 * kept .bottom < kept .top * 1000000000
+unfolding computing
+kept-least = lit< tt
+
+missed-least : 996007989 * missed .bottom < missed .top * 1000000000
+unfolding computing
+missed-least = lit< tt
+
+pub depth-is : depth sheet 8 ≡ 42
+unfolding computing
+depth-is = refl
+
+-- so from D on: the quotients are at least 3,992,010 billionths, and leave at least 996,007,989
+load-is : IsFraction (load sheet 8)
+unfolding load
+load-is = omega arith
+
+light : Light (load sheet 8) 42
+light = light-from sheet 8 42 (omega (arith, depth-is))
+
+from-depth : (ph : Phase) (a : ℕ) → 0 < ph .whole → 0 < summed (stepValue sheet ph 0) .bottom
+    → a * summed (stepValue sheet ph 0) .bottom < summed (stepValue sheet ph 0) .top * 1000000000
+    → (n : ℕ) → 42 ≤ n → Below (billionths a) (quotient (load sheet 8) (stepValue sheet ph 0) n)
+from-depth ph a w is h n l =
+    let e : 42 + (n - 42) ≡ n = omega arith in
+    let k : Below (billionths a) (quotient (load sheet 8) (stepValue sheet ph 0) (42 + (n - 42)))
+    = below-trans (billionths a) (summed (stepValue sheet ph 0)) _ is (le-of-lt h)
+    (later (load sheet 8) load-is 42 light (stepValue sheet ph 0) (divisor-some sheet (ph .whole) w) (n - 42)) in
+    rw e at k
+
+kept-is : 0 < kept .bottom
+unfolding computing
+kept-is = lit< tt
+
+missed-is : 0 < missed .bottom
+unfolding computing
+missed-is = lit< tt
+
+pub two-states : sheet .states ≡ 2
+unfolding computing
+two-states = refl
+
+pub at-least : (n : ℕ) → 42 ≤ n → Below (billionths 3992010) (untilQuotient sheet 8 isUp isDead 0 n)
+at-least = from-depth (untilPhase isUp isDead) 3992010 (omega arith) kept-is kept-least
+
+pub at-most : (n : ℕ) → 42 ≤ n → Below (untilQuotient sheet 8 isUp isDead 0 n) (billionths 3992011)
+at-most n l =
+    upper-left _ (untilQuotient sheet 8 isUp isDead 0 n) 996007989 3992011
+    (until-share sheet 8 isUp isDead 0 (omega (arith, two-states)) n) (omega arith)
+    (from-depth (complement (untilPhase isUp isDead)) 996007989 (omega arith) missed-is missed-least n l)
+
+-- every report of `P <= 10000000 U 8 up dead`
+end-under : (x : Fraction) (a m : ℕ) → Below (billionths a) x → x .top * 1000000000 < m * x .bottom → a < m
+end-under x a m h k = lt-of-mul-lt-mul-right (x .bottom) (omega arith)
+
+end-over : (x : Fraction) (a m : ℕ) → Below x (billionths a) → m * x .bottom < x .top * 1000000000 → m < a
+end-over x a m h k = lt-of-mul-lt-mul-right (x .bottom) (omega arith)
+
+yes-below : (p lower upper : ℕ) → upper ≤ p → lower ≤ upper → judged AtMost p lower upper ≡ Yes
+yes-below p lower upper h k = rw (le-ltb p lower (omega arith), le-leb upper p h)
+
+pub eight-hours : (lower upper : ℕ → ℕ) (v : ℕ → Verdict) → Reported sheet (until AtMost 10000000 8 up dead) lower upper v → EightHours lower upper v
+unfolding Backed
+eight-hours lower upper v k =
+    let here : 0 < sheet .states = omega (arith, two-states) in
+    let e : EndsAt sheet 8 (k .first) (k .second) 0 (lower 0) (upper 0) = k .ends 0 here in
+    let d : depth sheet 8 ≤ 42 = omega (arith, depth-is) in
+    let low : lower 0 < 3992011
+    = end-under atDepth (lower 0) 3992011
+    (rw (low-marks sheet 8 _ _ isUp isDead (k .first-backed) (k .second-backed) 0 42 here .0, low-marks sheet 8 _ _ isUp isDead (k .first-backed) (k .second-backed) 0 42 here .1)
+    at (e .lower-side 42 d)) under-end in
+    let high : 3992010 < upper 0
+    = end-over atDepth (upper 0) 3992010
+    (rw (high-marks sheet 8 _ _ isUp isDead (k .first-backed) (k .second-backed) 0 42 here .0, high-marks sheet 8 _ _ isUp isDead (k .first-backed) (k .second-backed) 0 42 here .1)
+    at (e .upper-side 42 d)) over-end in
+    let narrow : upper 0 ≤ lower 0 + 168
+    = omega (arith, depth-is, e .width (marks-decided sheet _ isUp (k .first-backed)) (marks-decided sheet _ isDead (k .second-backed))) in
+    record {
+      low = omega arith;
+      high = omega arith;
+      narrow = narrow;
+      verdict = k .verdict 0 here ∙ yes-below 10000000 (lower 0) (upper 0) (omega arith) (omega arith);
+    }

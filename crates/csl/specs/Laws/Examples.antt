@@ -1,0 +1,211 @@
+-- Two jobs over the small sheet that have a backing, written out: the rules for ends can be kept, with a `P` within a `P`, and with an
+-- undecided state. Assumes nothing.
+use mathlib.Core.Path.{_≡_, refl, ap, sym, _∙_}
+use mathlib.Core.Bool.{Bool, true, false, cond, not, _||_}
+use Prim.Native.Nat.{ℕ, zero, suc, _+_, _*_, _≤_, _<_}
+use native.Mathlib.Omega.{arith}
+use native.Mathlib.Nat.{mul-le-mul-right}
+use Rattle.csl.specs.Text.{bytes}
+use Rattle.csl.specs.Limits.{billion}
+use Rattle.csl.specs.Formula.{Formula, until, Comparison, AtMost, AtLeast, More}
+use Rattle.csl.specs.Fraction.{Fraction, Below, plus, billionths}
+use Rattle.csl.specs.Chain.{Chain, topRate, load, depth}
+use Rattle.csl.specs.Phase.{Phase, untilPhase, stepValue, untilQuotient}
+use Rattle.csl.specs.Verdicts.{Verdict, No, Yes, Undecided, marked, judged, least, most}
+use Rattle.csl.specs.Ends.{EndsAt, slack, lowQuotient, highQuotient}
+use Rattle.csl.specs.Backing.{AtEach, Backed, UntilBacked}
+use Rattle.csl.specs.Report.{Reported}
+use Rattle.csl.specs.Refusal.{jobChain, jobFormula}
+use Rattle.csl.specs.Bench.{small, up, dead}
+use Rattle.csl.specs.Laws.Computing.{computing}
+use Rattle.csl.specs.Laws.Quotient.{until-le}
+use Rattle.csl.specs.Laws.Readings.{low-marks, high-marks, below-same, same-below}
+use Rattle.csl.specs.Laws.Ends.{until-one, until-nowhere}
+use Rattle.csl.specs.Laws.PointEnds.{yes-or-no, ends-certain, ends-impossible}
+use Rattle.csl.specs.Laws.EightHours.{sheet, isUp, isDead, two-states, depth-is, at-least, at-most}
+
+-- both states
+at-two : (P : ℕ → Type 0) → P 0 → P 1 → (s : ℕ) → s < sheet .states → P s
+at-two P h k zero l = h
+at-two P h k (suc zero) l = k
+at-two P h k (suc (suc s)) l = absurd (omega (arith, two-states))
+
+-- the load is above 0
+moving : topRate sheet * 8 ≡ 0 → ⊥
+unfolding computing
+moving e = omega arith
+
+up-0 : marked (isUp 0) ≡ Yes
+unfolding computing
+up-0 = refl
+
+up-1 : marked (isUp 1) ≡ No
+unfolding computing
+up-1 = refl
+
+dead-0 : marked (isDead 0) ≡ No
+unfolding computing
+dead-0 = refl
+
+dead-1 : marked (isDead 1) ≡ Yes
+unfolding computing
+dead-1 = refl
+
+wider : (x : Fraction) (a b : ℕ) → a ≤ b → Below x (billionths a) → Below x (billionths b)
+wider x a b l h = omega (arith, mul-le-mul-right (x .bottom) l)
+
+room-above : (x : Fraction) (a b e : ℕ) → b ≤ a + e → Below (billionths a) x → Below (billionths b) (plus x (billionths e))
+room-above x a b e l h = omega (arith, mul-le-mul-right (x .bottom) l)
+
+-- state 0 of `U 8 up dead`, also where the operands are other nodes with those verdicts: 3,992,010 to 3,992,011
+module _ (v w : ℕ → Verdict) (h : AtEach sheet (λ s. v s ≡ marked (isUp s))) (k : AtEach sheet (λ s. w s ≡ marked (isDead s))) where
+  here : 0 < sheet .states
+  here = omega (arith, two-states)
+
+  low-least : (n : ℕ) → depth sheet 8 ≤ n → Below (billionths 3992010) (lowQuotient sheet 8 v w 0 n)
+  low-least n d = below-same _ _ _ (low-marks sheet 8 v w isUp isDead h k 0 n here) (at-least n (omega (arith, depth-is)))
+
+  low-most : (n : ℕ) → depth sheet 8 ≤ n → Below (lowQuotient sheet 8 v w 0 n) (billionths 3992011)
+  low-most n d = same-below _ _ _ (low-marks sheet 8 v w isUp isDead h k 0 n here) (at-most n (omega (arith, depth-is)))
+
+  high-least : (n : ℕ) → depth sheet 8 ≤ n → Below (billionths 3992010) (highQuotient sheet 8 v w 0 n)
+  high-least n d = below-same _ _ _ (high-marks sheet 8 v w isUp isDead h k 0 n here) (at-least n (omega (arith, depth-is)))
+
+  high-most : (n : ℕ) → depth sheet 8 ≤ n → Below (highQuotient sheet 8 v w 0 n) (billionths 3992011)
+  high-most n d = same-below _ _ _ (high-marks sheet 8 v w isUp isDead h k 0 n here) (at-most n (omega (arith, depth-is)))
+
+  first-yes : v 0 ≡ Yes
+  first-yes = h 0 here ∙ up-0
+
+  second-no : w 0 ≡ No
+  second-no = k 0 here ∙ dead-0
+
+  pub eight-hours-ends : EndsAt sheet 8 v w 0 3992010 3992011
+  eight-hours-ends =
+      record {
+        lower-side = low-least;
+        lower-near = λ n d. wider _ 3992011 (3992010 + slack sheet 8) (omega (arith, depth-is)) (low-most n d);
+        upper-side = high-most;
+        upper-near = λ n d. room-above _ 3992010 3992011 (slack sheet 8) (omega (arith, depth-is)) (high-least n d);
+        width = λ i j. omega (arith, depth-is);
+        lower-range = omega arith;
+        upper-range = omega arith;
+        certain = λ e. yes-or-no e second-no;
+        impossible = λ e f. yes-or-no first-yes e;
+        lower-exact = λ z. absurd (moving z);
+        upper-exact = λ z. absurd (moving z);
+      }
+
+-- the ends of `U 8 up dead` at both states
+abbrev pub lower8 : ℕ → ℕ
+lower8 s = cond (isDead s) billion 3992010
+
+abbrev pub upper8 : ℕ → ℕ
+upper8 s = cond (isDead s) billion 3992011
+
+up-yes : isUp 0 ≡ true
+unfolding computing
+up-yes = refl
+
+up-no : isUp 1 ≡ false
+unfolding computing
+up-no = refl
+
+dead-no : isDead 0 ≡ false
+unfolding computing
+dead-no = refl
+
+dead-yes : isDead 1 ≡ true
+unfolding computing
+dead-yes = refl
+
+ends-8 : (v w : ℕ → Verdict) → AtEach sheet (λ s. v s ≡ marked (isUp s)) → AtEach sheet (λ s. w s ≡ marked (isDead s))
+    → AtEach sheet λ s. EndsAt sheet 8 v w s (lower8 s) (upper8 s)
+ends-8 v w h k =
+    at-two _ (rw dead-no (eight-hours-ends v w h k))
+    (rw dead-yes (ends-certain sheet 8 v w 1 (omega (arith, two-states)) (k 1 (omega (arith, two-states)) ∙ dead-1)))
+
+-- a backing of `P r p U 8 up dead`, for any comparison and threshold
+inner : (r : Comparison) (p : ℕ) → Reported sheet (until r p 8 up dead) lower8 upper8 (λ s. judged r p (lower8 s) (upper8 s))
+unfolding Backed
+inner r p =
+    record {
+      first = λ s. marked (isUp s);
+      first-backed = λ s l. refl;
+      second = λ s. marked (isDead s);
+      second-backed = λ s l. refl;
+      ends = ends-8 (λ s. marked (isUp s)) (λ s. marked (isDead s)) (λ s l. refl) (λ s l. refl);
+      verdict = λ s l. refl;
+    }
+
+-- "P >= 1 U 8 up P > 10000000 U 8 up dead": the inner `P` is no at state 0 and yes at state 1, as `dead` is
+inner-is : AtEach sheet λ s. judged More 10000000 (lower8 s) (upper8 s) ≡ marked (isDead s)
+inner-is = at-two _ (rw dead-no) (rw dead-yes)
+
+pub nested : Reported sheet (until AtLeast 1 8 up (until More 10000000 8 up dead)) lower8 upper8 (λ s. Yes)
+unfolding Backed
+nested =
+    record {
+      first = λ s. marked (isUp s);
+      first-backed = λ s l. refl;
+      second = λ s. judged More 10000000 (lower8 s) (upper8 s);
+      second-backed = record { lower = lower8; upper = upper8; keeps = inner More 10000000 };
+      ends = ends-8 (λ s. marked (isUp s)) (λ s. judged More 10000000 (lower8 s) (upper8 s)) (λ s l. refl) inner-is;
+      verdict = at-two _ (rw dead-no) (rw dead-yes);
+    }
+
+-- "P >= 5 U 8 up P <= 3992010 U 8 up dead": the inner `P` is undecided at state 0 and no at state 1
+abbrev open8 : ℕ → Verdict
+open8 s = judged AtMost 3992010 (lower8 s) (upper8 s)
+
+open-0 : open8 0 ≡ Undecided
+open-0 = rw dead-no
+
+open-1 : open8 1 ≡ No
+open-1 = rw dead-yes
+
+apart : {x : Verdict} {A : Type 0} → x ≡ Undecided → x ≡ Yes → A
+apart {x} h k = let z : _≡_ {A = ℕ} 0 1 = cc in absurd (omega arith)
+
+module _ (v : ℕ → Verdict) (h : AtEach sheet (λ s. v s ≡ marked (isUp s))) where
+  low-0 : (n : ℕ) → lowQuotient sheet 8 v open8 0 n .top ≡ 0
+  low-0 n =
+      until-nowhere sheet 8 (least v) (least open8) (at-two _ (rw open-0) (rw open-1)) 0 n (omega (arith, two-states))
+
+  high-1 : (n : ℕ) → highQuotient sheet 8 v open8 0 n .top ≡ highQuotient sheet 8 v open8 0 n .bottom
+  high-1 n = until-one sheet 8 (most v) (most open8) 0 (omega (arith, two-states)) (rw open-0) n
+
+  open-ends : EndsAt sheet 8 v open8 0 0 billion
+  open-ends =
+      record {
+        lower-side = λ n d. omega arith;
+        lower-near = λ n d. omega (arith, low-0 n);
+        upper-side = λ n d. omega (arith, high-1 n);
+        upper-near = λ n d. omega (arith, high-1 n);
+        width = λ i j. absurd (rw open-0 at (j 0 (omega (arith, two-states))));
+        lower-range = omega arith;
+        upper-range = omega arith;
+        certain = λ e. apart open-0 e;
+        impossible = λ e f. yes-or-no (h 0 (omega (arith, two-states)) ∙ up-0) e;
+        lower-exact = λ z. absurd (moving z);
+        upper-exact = λ z. absurd (moving z);
+      }
+
+abbrev pub openUpper : ℕ → ℕ
+openUpper s = cond (isUp s) billion 0
+
+abbrev pub openVerdict : ℕ → Verdict
+openVerdict s = cond (isUp s) Undecided No
+
+pub undecided : Reported sheet (until AtLeast 5 8 up (until AtMost 3992010 8 up dead)) (λ s. 0) openUpper openVerdict
+unfolding Backed
+undecided =
+    record {
+      first = λ s. marked (isUp s);
+      first-backed = λ s l. refl;
+      second = open8;
+      second-backed = record { lower = lower8; upper = upper8; keeps = inner AtMost 3992010 };
+      ends = at-two _ (rw up-yes (open-ends (λ s. marked (isUp s)) (λ s l. refl)))
+          (rw up-no (ends-impossible sheet 8 (λ s. marked (isUp s)) open8 1 (omega (arith, two-states)) up-1 open-1));
+      verdict = at-two _ (rw up-yes) (rw up-no);
+    }

@@ -1,0 +1,125 @@
+-- What follows from the definitions alone: the user's third demand, of EVERY report that has a backing, whoever made it; the bench values;
+-- what document 01 says in passing; and that the rules can be kept. Nothing here speaks of a program. Assumes nothing.
+use mathlib.Core.Path.{_≡_, refl}
+use mathlib.Core.Bool.{Bool, true}
+use Prim.Native.Nat.{ℕ, suc, _+_, _*_, _≤_, _<_}
+use Prim.Native.String.{String}
+use native.Mathlib.Omega.{arith}
+use Rattle.csl.specs.Limits.{billion, widthFactor, spareSteps}
+use Rattle.csl.specs.Formula.{Formula, until, Comparison, AtMost, AtLeast, More}
+use Rattle.csl.specs.Fraction.{Fraction, frac, IsFraction, Below, times, sumUp, billionths}
+use Rattle.csl.specs.Chain.{Chain, load, depth}
+use Rattle.csl.specs.Phase.{untilPhase, divisor, stepTop, weight, quotient, untilQuotient}
+use Rattle.csl.specs.Verdicts.{Verdict, No, Yes, Undecided, Reading, asNo}
+use Rattle.csl.specs.Ends.{AllDecided}
+use Rattle.csl.specs.Backing.{Backed, NothingUndecided}
+use Rattle.csl.specs.Truth.{Obeys, Throughout}
+use Rattle.csl.specs.Report.{Reported}
+use Rattle.csl.specs.Refusal.{Job, jobChain}
+use Rattle.csl.specs.Bench.{small, up, dead, Accepts, BenchValues, EightHours}
+use Rattle.csl.specs.Laws.Computing.{computing}
+use Rattle.csl.specs.Laws.Fraction.{Under, under-below}
+use Rattle.csl.specs.Laws.Steps.{step-le, step-rises, divisor-some}
+use Rattle.csl.specs.Laws.Quotient.{Implies, until-starts, until-under, until-is, until-le, until-rises, weights-some}
+use Rattle.csl.specs.Laws.Tail.{half-weight, light-from, after}
+use Rattle.csl.specs.Laws.Enclosure.{Encloses, encloses}
+use Rattle.csl.specs.Laws.Settled.{verdicts-obey}
+use Rattle.csl.specs.Laws.Throughout.{throughout}
+use Rattle.csl.specs.Laws.Report.{report-agrees}
+use Rattle.csl.specs.Laws.Bench as bench
+use Rattle.csl.specs.Laws.EightHours as hours
+use Rattle.csl.specs.Laws.Examples as examples
+
+-- T1. Demand 3: "the outermost until's quotient at every depth from D on, for every reading, lies in the interval; width at most 4 × D
+-- billionths where no operand state is undecided". k is any backing of the report; x and y read its operands.
+module _ (c : Chain) (r : Comparison) (p t : ℕ) (a b : Formula) (lower upper : ℕ → ℕ) (v : ℕ → Verdict)
+    (k : Reported c (until r p t a b) lower upper v) where
+  pub quotients-lie-in-the-interval : (x y : ℕ → Bool) → Reading (c .states) (k .first) x → Reading (c .states) (k .second) y
+      → (s n : ℕ) → s < c .states → depth c t ≤ n
+      → Below (billionths (lower s)) (untilQuotient c t x y s n) × Below (untilQuotient c t x y s n) (billionths (upper s))
+  quotients-lie-in-the-interval x y i j s n l d =
+      let e : Encloses c t (lower s) (upper s) x y s = encloses c t (k .first) (k .second) x y s (lower s) (upper s) l (k .ends s l) i j in
+      (e .below n d, e .above n d)
+
+  pub intervals-are-narrow : AllDecided c (k .first) → AllDecided c (k .second) → (s : ℕ) → s < c .states
+      → upper s ≤ lower s + widthFactor * depth c t
+  intervals-are-narrow i j s l = k .ends s l .width i j
+
+-- T2. Demand 3: "every truth table that obeys CSL's rules agrees with each yes and no, nested formulas included". At every node, and for
+-- the verdicts of every report.
+pub tables-agree-at-every-node : (c : Chain) (f : Formula) (v : ℕ → Verdict) (table : ℕ → Bool) (k : Backed c f v) (o : Obeys c f table)
+    → Throughout c f v table k o
+tables-agree-at-every-node c f v table k o = throughout c f v table k o
+
+pub tables-agree-with-the-report : (c : Chain) (f : Formula) (lower upper : ℕ → ℕ) (v : ℕ → Verdict) (table : ℕ → Bool)
+    → Reported c f lower upper v → Obeys c f table → Reading (c .states) v table
+tables-agree-with-the-report c f lower upper v table k o = report-agrees c f lower upper v table k o
+
+-- T3. Demand 3: "with nothing undecided the verdicts are such a table".
+pub decided-verdicts-are-a-table : (c : Chain) (f : Formula) (v : ℕ → Verdict) (k : Backed c f v) → NothingUndecided c f v k
+    → Obeys c f (λ s. asNo (v s))
+decided-verdicts-are-a-table c f v k d = verdicts-obey c f v k d
+
+-- T4. The starred bench values, and `P <= 10000000 U 8 up dead`, of every report that has a backing.
+pub starred-bench-values : BenchValues
+starred-bench-values = bench.bench-values
+
+pub eight-hours-of-every-report : (lower upper : ℕ → ℕ) (v : ℕ → Verdict)
+    → Reported (jobChain (small "P <= 10000000 U 8 up dead\n")) (until AtMost 10000000 8 up dead) lower upper v → EightHours lower upper v
+eight-hours-of-every-report lower upper v k = hours.eight-hours lower upper v k
+
+-- T5. What document 01 says in passing, for any chain, hours and places where the operands hold.
+module _ (c : Chain) (first second : ℕ → Bool) where
+  -- step values lie from 0 to 1, and their divisor is above 0
+  pub step-values-are-at-most-1 : (k s : ℕ) → s < c .states → stepTop c (untilPhase first second) k s ≤ divisor c 1 k
+  step-values-are-at-most-1 k s l = step-le c (untilPhase first second) (until-starts c first second) k s l
+
+  pub step-divisors-are-above-0 : (k : ℕ) → 0 < divisor c 1 k
+  step-divisors-are-above-0 k = divisor-some c 1 (omega arith) k
+
+  -- "divided by the sum of those weights": that is above 0, and the quotient a fraction from 0 to 1
+  pub weight-sums-are-above-0 : (t n : ℕ) → 0 < sumUp (weight (load c t)) n .top
+  weight-sums-are-above-0 t n = weights-some c t n
+
+  pub quotients-are-fractions : (t s n : ℕ) → IsFraction (untilQuotient c t first second s n)
+  quotients-are-fractions t s n = until-is c t first second s n
+
+  pub quotients-are-at-most-1 : (t s n : ℕ) → s < c .states → Below (untilQuotient c t first second s n) (frac 1 1)
+  quotients-are-at-most-1 t s n l = omega (arith, until-le c t first second s n l)
+
+-- step values and quotients grow with the reading
+module _ (c : Chain) (a b a' b' : ℕ → Bool) (h : Implies (c .states) a a') (k : Implies (c .states) b b') where
+  pub step-values-grow-with-the-reading : (n s : ℕ) → s < c .states → stepTop c (untilPhase a b) n s ≤ stepTop c (untilPhase a' b') n s
+  step-values-grow-with-the-reading n s l =
+      step-rises c (untilPhase a b) (untilPhase a' b') (until-starts c a b) (until-under c a b a' b' h k) n s l
+
+  pub quotients-grow-with-the-reading : (t s n : ℕ) → s < c .states → Below (untilQuotient c t a b s n) (untilQuotient c t a' b' s n)
+  quotients-grow-with-the-reading t s n l = under-below (until-rises c t a b a' b' h k s n l)
+
+-- "In the last 40 steps up to D, and after, each weight is at most half the one before." The step is k + 1.
+pub weights-halve : (c : Chain) (t k : ℕ) → depth c t ≤ k + spareSteps
+    → Below (times (frac 2 1) (weight (load c t) (suc k))) (weight (load c t) k)
+weights-halve c t k h = half-weight c t k h
+
+-- so the weights after D, however many, add to at most the weight at D
+pub weights-after-the-depth : (c : Chain) (t j : ℕ)
+    → Below (sumUp (λ i. weight (load c t) (suc (depth c t) + i)) j) (weight (load c t) (depth c t))
+unfolding load
+weights-after-the-depth c t j = after (load c t) (omega arith) (depth c t) (light-from c t (depth c t) (omega arith)) j
+
+-- T6. The definitions do not contradict themselves: two jobs, accepted, that have a report with a backing.
+pub record HasReport (j : Job) (f : Formula) (q d : ℕ) (lower upper : ℕ → ℕ) (v : ℕ → Verdict) : Type 0 where
+  pub accepts : Accepts j f q d
+  pub reported : Reported (jobChain j) f lower upper v
+
+-- a `P` within a `P`: 3,992,010 to 3,992,011 at state 0, 1,000,000,000 twice at state 1, yes twice
+pub nested-job-has-a-report : HasReport (small "P >= 1 U 8 up P > 10000000 U 8 up dead\n")
+    (until AtLeast 1 8 up (until More 10000000 8 up dead)) 500 42 examples.lower8 examples.upper8 (λ s. Yes)
+unfolding computing
+nested-job-has-a-report = record { accepts = refl; reported = examples.nested }
+
+-- an undecided operand: 0 to 1,000,000,000 and undecided at state 0, 0 twice and no at state 1
+pub undecided-job-has-a-report : HasReport (small "P >= 5 U 8 up P <= 3992010 U 8 up dead\n")
+    (until AtLeast 5 8 up (until AtMost 3992010 8 up dead)) 500 42 (λ s. 0) examples.openUpper examples.openVerdict
+unfolding computing
+undecided-job-has-a-report = record { accepts = refl; reported = examples.undecided }
