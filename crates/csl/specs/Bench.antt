@@ -6,7 +6,9 @@ use mathlib.Core.Option.{Option, some}
 use Rattle.csl.specs.Text.{Text, bytes}
 use Rattle.csl.specs.Limits.{billion, mostNodes}
 use Rattle.csl.specs.Formula.{Formula, always, label, negated, both, until, Comparison, AtMost, AtLeast}
-use Rattle.csl.specs.Chain.{Chain, topRate, depth}
+use Rattle.csl.specs.Fraction.{Fraction, frac, Same}
+use Rattle.csl.specs.Chain.{Chain, chainOf}
+use Rattle.csl.specs.Phase.{untilQuotient}
 use Rattle.csl.specs.Verdicts.{Verdict, Yes}
 use Rattle.csl.specs.Backing.{AtEach}
 use Rattle.csl.specs.Report.{Reported, reportText, depthOf}
@@ -89,3 +91,17 @@ pub record EightHours (lower upper : ℕ → ℕ) (v : ℕ → Verdict) : Type 0
   pub high : 3992011 ≤ upper 0
   pub narrow : upper 0 ≤ lower 0 + 168
   pub verdict : v 0 ≡ Yes
+
+-- Beside the paper's values: a sheet of three states with unequal exit rates, and its quotients for `U 5000 up dead` at depth 9, from the
+-- second reckoning in big fractions.
+abbrev pub trialSheet : Chain
+trialSheet =
+    chainOf (bytes "from,to,rate\n0,1,300\n0,2,200\n1,0,100\n2,1,50\n") (bytes "state,up,dead\n0,1,0\n1,1,0\n2,0,1\n")
+
+abbrev pub trialQuotient : ℕ → Fraction
+trialQuotient s = untilQuotient trialSheet 5000 (trialSheet .mark (bytes "up")) (trialSheet .mark (bytes "dead")) s 9
+
+pub record TrialQuotients : Type 0 where
+  pub state-0 : Same (trialQuotient 0) (frac 914845826 2262813335)
+  pub state-1 : Same (trialQuotient 1) (frac 249172128 2262813335)
+  pub state-2 : Same (trialQuotient 2) (frac 1 1)

@@ -19,5 +19,6 @@ pub mod Report
 pub mod Backing
 pub mod SummedEnds
 pub mod Bench
+pub mod Trial
 pub mod EightHours
 pub mod Examples

@@ -16,7 +16,7 @@ use Rattle.csl.specs.Backing.{Backed, NothingUndecided}
 use Rattle.csl.specs.Truth.{Obeys, Throughout}
 use Rattle.csl.specs.Report.{Reported}
 use Rattle.csl.specs.Refusal.{Job, jobChain}
-use Rattle.csl.specs.Bench.{small, up, dead, Accepts, BenchValues, EightHours}
+use Rattle.csl.specs.Bench.{small, up, dead, Accepts, BenchValues, EightHours, TrialQuotients}
 use Rattle.csl.specs.Laws.Computing.{computing}
 use Rattle.csl.specs.Laws.Fraction.{Under, under-below}
 use Rattle.csl.specs.Laws.Steps.{step-le, step-rises, divisor-some}
@@ -27,6 +27,7 @@ use Rattle.csl.specs.Laws.Settled.{verdicts-obey}
 use Rattle.csl.specs.Laws.Throughout.{throughout}
 use Rattle.csl.specs.Laws.Report.{report-agrees}
 use Rattle.csl.specs.Laws.Bench as bench
+use Rattle.csl.specs.Laws.Trial as trial
 use Rattle.csl.specs.Laws.EightHours as hours
 use Rattle.csl.specs.Laws.Examples as examples
 
@@ -60,13 +61,17 @@ pub decided-verdicts-are-a-table : (c : Chain) (f : Formula) (v : ℕ → Verdic
     → Obeys c f (λ s. asNo (v s))
 decided-verdicts-are-a-table c f v k d = verdicts-obey c f v k d
 
--- T4. The starred bench values, and `P <= 10000000 U 8 up dead`, of every report that has a backing.
+-- T4. The starred bench values, and `P <= 10000000 U 8 up dead`, of every report that has a backing; and quotients as a second reckoning
+-- has them.
 pub starred-bench-values : BenchValues
 starred-bench-values = bench.bench-values
 
 pub eight-hours-of-every-report : (lower upper : ℕ → ℕ) (v : ℕ → Verdict)
     → Reported (jobChain (small "P <= 10000000 U 8 up dead\n")) (until AtMost 10000000 8 up dead) lower upper v → EightHours lower upper v
 eight-hours-of-every-report lower upper v k = hours.eight-hours lower upper v k
+
+pub quotients-as-reckoned : TrialQuotients
+quotients-as-reckoned = trial.trial-quotients
 
 -- T5. What document 01 says in passing, for any chain, hours and places where the operands hold.
 module _ (c : Chain) (first second : ℕ → Bool) where

@@ -1,0 +1,12 @@
+-- The quotients of a sheet of three states, with exit rates 500, 100 and 50, are what a second reckoning in big fractions found. Assumes nothing.
+use mathlib.Core.Path.{_≡_, refl}
+use Prim.Native.Nat.{ℕ}
+use Rattle.csl.specs.Text.{bytes}
+use Rattle.csl.specs.Fraction.{frac, Same}
+use Rattle.csl.specs.Phase.{untilQuotient}
+use Rattle.csl.specs.Bench.{trialSheet, TrialQuotients}
+use Rattle.csl.specs.Laws.Computing.{computing}
+
+pub trial-quotients : TrialQuotients
+unfolding computing
+trial-quotients = record { state-0 = refl; state-1 = refl; state-2 = refl }

@@ -1,0 +1,1 @@
+"""The project's own tests, run by `tests/run.py` after the proofs."""

@@ -1,0 +1,102 @@
+"""Has the checker of proofs compute the definitions on concrete jobs.
+
+It writes a scratch crate outside the repository, with one equation by computation for each job, and checks it: that the job is turned back with
+its number, or accepted with its q and depth. `python3 -m tests.definitions` tries every vector of ../shared/vectors that is small
+enough (`--bytes N`: three texts of at most N bytes together, 2,000 if not given).
+"""
+import argparse
+import json
+import pathlib
+import shutil
+import subprocess
+import sys
+import tempfile
+
+ROOT = pathlib.Path(__file__).resolve().parent.parent
+VECTORS = ROOT.parent / "shared" / "vectors"
+
+HEAD = """-- Jobs against the definitions, by computation. Assumes nothing.
+use mathlib.Core.Path.{_≡_, refl}
+use Prim.Native.Nat.{ℕ}
+use mathlib.Core.Option.{Option, some, none}
+use Rattle.csl.specs.Text.{bytes}
+use Rattle.csl.specs.Lent.{Buffers, needed}
+use Rattle.csl.specs.Chain.{topRate}
+use Rattle.csl.specs.Report.{depthOf}
+use Rattle.csl.specs.Refusal.{Job, jobChain, jobFormula, refusal}
+use Rattle.csl.specs.Laws.Computing.{computing}
+
+abbrev enough : Buffers ℕ
+enough = needed 512 4096 64
+"""
+
+
+def quoted(text):
+    """A text as a quoted literal: one character for each byte."""
+    return '"' + "".join(chr(b) if 32 <= b < 127 and b not in b'"\\' else f"\\u{{{b:x}}}" for b in text) + '"'
+
+
+def buffers(lent):
+    if lent is None:
+        return "enough"
+    names = ("lower", "upper", "verdicts", "moves", "vectors", "marks")
+    return "(record { " + "; ".join(f"{name} = {length}" for name, length in zip(names, lent)) + " })"
+
+
+def equation(number, job):
+    """The equations for one job, a dict with the three texts, `refused` or `q` and `depth`, and perhaps `lent`."""
+    texts = "; ".join(f"{name} = bytes {quoted(job[name])}" for name in ("moves", "labels", "formula"))
+    lines = [f"abbrev job{number} : Job", f"job{number} = record {{ {texts} }}", ""]
+
+    def claim(name, statement):
+        lines.extend([f"{name}{number} : {statement}", "unfolding computing", f"{name}{number} = refl", ""])
+
+    answer = f"some {job['refused']}" if "refused" in job else "none"
+    claim("refusal-of-", f"refusal job{number} {buffers(job.get('lent'))} ≡ {answer}")
+    if "q" in job:
+        claim("rate-of-", f"topRate (jobChain job{number}) ≡ {job['q']}")
+    if "depth" in job:
+        claim("depth-of-", f"depthOf (jobChain job{number}) (jobFormula job{number}) ≡ {job['depth']}")
+    return "\n".join(lines)
+
+
+def check(jobs):
+    """Whether all equations hold, and what the check printed."""
+    with tempfile.TemporaryDirectory() as folder:
+        scratch = pathlib.Path(folder)
+        shutil.copytree(ROOT / "crates" / "csl", scratch / "crates" / "csl", ignore=shutil.ignore_patterns("must-fail"))
+        crate = scratch / "crates" / "jobs"
+        (crate / "src").mkdir(parents=True)
+        (crate / "specs").mkdir()
+        (crate / "src" / "lib.rt").write_text("// Jobs against the definitions.\n")
+        (crate / "specs" / "Lib.antt").write_text("pub mod Jobs\n")
+        text = HEAD + "\n" + "\n".join(equation(at, job) for at, job in enumerate(jobs))
+        (crate / "specs" / "Jobs.antt").write_text(text, encoding="utf-8")
+        (scratch / "crates.txt").write_text("csl:\njobs: csl\n")
+        run = subprocess.run(["rt", "check", "jobs"], cwd=scratch, stdout=subprocess.PIPE, stderr=subprocess.STDOUT, text=True)
+        return run.returncode == 0, run.stdout
+
+
+def vectors(most):
+    """The vectors whose three texts have at most so many bytes together."""
+    jobs = []
+    for name in ("refusals.jsonl", "reports.jsonl"):
+        for line in (VECTORS / name).read_text().splitlines():
+            job = json.loads(line)
+            job.update((key, job[key].encode("latin-1")) for key in ("moves", "labels", "formula"))
+            if sum(len(job[key]) for key in ("moves", "labels", "formula")) <= most:
+                jobs.append(job)
+    return jobs
+
+
+def main():
+    reader = argparse.ArgumentParser()
+    reader.add_argument("--bytes", type=int, default=2000)
+    jobs = vectors(reader.parse_args().bytes)
+    good, printed = check(jobs)
+    print(f"{len(jobs)} vectors: " + ("all hold" if good else "NOT ALL HOLD\n" + printed))
+    return 0 if good else 1
+
+
+if __name__ == "__main__":
+    sys.exit(main())

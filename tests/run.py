@@ -1,0 +1,55 @@
+"""Runs everything: `rt ci` (proofs, must-fail edits, programs), then the project's own tests. Stops at the first failure.
+
+The last line is `N passed, M failed`; N counts the proved and the tested.
+"""
+import pathlib
+import re
+import subprocess
+import sys
+import time
+import unittest
+
+ROOT = pathlib.Path(__file__).resolve().parent.parent
+CLOSING = re.compile(r"(\d+) passed, (\d+) failed")
+
+
+def prove():
+    """What `rt ci` passed and failed; its output goes on to ours."""
+    passed, failed = 0, 1
+    with subprocess.Popen(["rt", "ci"], cwd=ROOT, stdout=subprocess.PIPE, stderr=subprocess.STDOUT, text=True) as run:
+        for line in run.stdout:
+            print(line, end="", flush=True)
+            closing = CLOSING.fullmatch(line.strip())
+            if closing:
+                passed, failed = map(int, closing.groups())
+    if run.returncode != 0:
+        failed = max(failed, 1)
+    return passed, failed
+
+
+def test():
+    """What the project's own tests passed and failed."""
+    sys.path.insert(0, str(ROOT))
+    loader = unittest.TestLoader()
+    suite = unittest.TestSuite(
+        loader.discover(str(ROOT / folder), top_level_dir=str(ROOT)) for folder in ("reckoning/tests", "tests"))
+    result = unittest.TextTestRunner(stream=sys.stdout, verbosity=1, failfast=True).run(suite)
+    failed = len(result.failures) + len(result.errors) + len(result.unexpectedSuccesses)
+    return result.testsRun - failed - len(result.skipped), failed
+
+
+def main():
+    begun = time.monotonic()
+    passed, failed = prove()
+    proved = time.monotonic()
+    print(f"proofs: {proved - begun:.0f} s", flush=True)
+    if not failed:
+        more, failed = test()
+        passed += more
+        print(f"tests: {time.monotonic() - proved:.0f} s")
+    print(f"{passed} passed, {failed} failed")
+    return 1 if failed else 0
+
+
+if __name__ == "__main__":
+    sys.exit(main())
