@@ -2,10 +2,10 @@
 use mathlib.Core.Path.{_≡_}
 use Prim.Native.Nat.{ℕ, zero, suc, _+_, _≤_}
 use Prim.Native.String.{String}
-use mathlib.Core.Option.{Option, some}
-use Rattle.csl.specs.Text.{Text, bytes}
-use Rattle.csl.specs.Limits.{billion, mostNodes}
-use Rattle.csl.specs.Formula.{Formula, always, label, negated, both, until, Comparison, AtMost, AtLeast}
+use mathlib.Core.Option.{some}
+use Rattle.csl.specs.Text.{bytes}
+use Rattle.csl.specs.Limits.{mostNodes}
+use Rattle.csl.specs.Formula.{Formula, label, negated, until, AtMost, AtLeast}
 use Rattle.csl.specs.Fraction.{Fraction, frac, Same}
 use Rattle.csl.specs.Chain.{Chain, chainOf}
 use Rattle.csl.specs.Phase.{untilQuotient}
@@ -13,7 +13,7 @@ use Rattle.csl.specs.Verdicts.{Verdict, Yes}
 use Rattle.csl.specs.Backing.{AtEach}
 use Rattle.csl.specs.Report.{Reported, reportText, depthOf}
 use Rattle.csl.specs.Lent.{Buffers, needed}
-use Rattle.csl.specs.Refusal.{Job, jobStates, jobChain, jobFormula, refusal, outcome, Outcome, accepted}
+use Rattle.csl.specs.Refusal.{Job, jobStates, jobChain, jobFormula, refusal, outcome, accepted}
 
 -- a job over the labels of the small sheet
 abbrev pub jobOf : String → String → Job

@@ -1,6 +1,6 @@
 -- The chain: exit rates, the uniformisation rate q, loads and depths. Assumes nothing.
 use Prim.Native.Nat.{ℕ, zero, suc, _+_, _*_, max}
-use mathlib.Core.Bool.{Bool, true, false, cond}
+use mathlib.Core.Bool.{Bool, cond}
 use lib.Dec.{eqb}
 use Rattle.csl.specs.Text.{Text}
 use Rattle.csl.specs.Limits.{rateHours, spareSteps}

@@ -5,7 +5,7 @@ use Rattle.csl.specs.Limits.{billion, widthFactor}
 use Rattle.csl.specs.Fraction.{Fraction, Below, Same, plus, billionths}
 use Rattle.csl.specs.Chain.{Chain, topRate, depth}
 use Rattle.csl.specs.Phase.{untilQuotient}
-use Rattle.csl.specs.Verdicts.{Verdict, No, Yes, Undecided, least, most, Decided}
+use Rattle.csl.specs.Verdicts.{Verdict, No, Yes, least, most, Decided}
 
 -- 4 × D
 abbrev pub slack : Chain → ℕ → ℕ

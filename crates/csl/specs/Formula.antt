@@ -1,6 +1,6 @@
 -- A state formula as a tree: "Each state formula counts as one node". Assumes nothing.
-use Prim.Native.Nat.{ℕ, zero, suc, _+_, max}
-use mathlib.Core.Bool.{Bool, true, false, _&&_}
+use Prim.Native.Nat.{ℕ, _+_, max}
+use mathlib.Core.Bool.{Bool, true, _&&_}
 use Rattle.csl.specs.Text.{Text}
 
 -- "Comparisons are `<`, `<=`, `>=`, `>` (the four of source document 002)."

@@ -1,6 +1,7 @@
 -- What follows from the definitions, one file for each thing spoken of.
 pub mod Computing
 pub mod Sum
+pub mod Verdicts
 pub mod Fraction
 pub mod Steps
 pub mod Quotient

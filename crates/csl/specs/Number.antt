@@ -1,10 +1,10 @@
 -- "A number is digits without a leading zero, or 0 alone, of at most 10 digits in the formula and 9 elsewhere." Assumes nothing.
-use Prim.Native.Nat.{ℕ, zero, suc, _+_, _*_, _-_}
-use mathlib.Core.Bool.{Bool, true, false, not, _&&_}
-use mathlib.Core.List.{List, [], _∷_}
+use Prim.Native.Nat.{ℕ, _+_, _*_, _-_}
+use mathlib.Core.Bool.{Bool, false, not, _&&_}
+use mathlib.Core.List.{[], _∷_}
 use lib.ListN.{length}
 use lib.Dec.{leb, eqb}
-use Rattle.csl.specs.Text.{Text, bytes, same, every}
+use Rattle.csl.specs.Text.{Text, every}
 
 -- `0` to `9`
 abbrev pub isDigit : ℕ → Bool

@@ -1,12 +1,12 @@
 -- Turned-back jobs: "The lowest number that holds is given; a condition is put only to jobs that passed all lower ones in all three
 -- texts." Each test below is put to the whole of what it tests, and says something only of a job that passed those before it. Assumes nothing.
-use Prim.Native.Nat.{ℕ, zero, suc, _+_, _*_}
+use Prim.Native.Nat.{ℕ, _*_}
 use mathlib.Core.Bool.{Bool, true, false, cond, not, _&&_, _||_}
 use mathlib.Core.List.{List, [], _∷_, _++_}
 use mathlib.Core.Option.{Option, none, some}
 use lib.ListN.{length}
 use lib.Dec.{leb, ltb, eqb}
-use Rattle.csl.specs.Text.{Text, among, every, any}
+use Rattle.csl.specs.Text.{Text, among, any}
 use Rattle.csl.specs.Limits.{mostStates, mostMoves, mostRate, formulaBytes, sheetBytes, mostNodes, mostLevels, mostThreshold, mostHours, mostRateHours}
 use Rattle.csl.specs.Line.{laterLines}
 use Rattle.csl.specs.Labels.{namesOf, labelsHead, labelsLayout, inTurn, statesOf}
@@ -138,6 +138,6 @@ pub data Outcome : Type 0 where
 unfoldable pub outcome : Job → Buffers ℕ → Outcome
 outcome j lent =
     elim (refusal j lent) [
-      none ↦ accepted (jobChain j) (jobFormula j) (topRate (jobChain j)) (depthOf (jobChain j) (jobFormula j))
-    | some n ↦ refused n
+      | none ↦ accepted (jobChain j) (jobFormula j) (topRate (jobChain j)) (depthOf (jobChain j) (jobFormula j))
+      | some n ↦ refused n
     ]

@@ -1,30 +1,29 @@
 -- What follows from the definitions alone: the user's third demand, of EVERY report that has a backing, whoever made it; the bench values;
 -- what document 01 says in passing; and that the rules can be kept. Nothing here speaks of a program. Assumes nothing.
-use mathlib.Core.Path.{_≡_, refl}
-use mathlib.Core.Bool.{Bool, true}
+use mathlib.Core.Path.{refl}
+use mathlib.Core.Bool.{Bool}
 use Prim.Native.Nat.{ℕ, suc, _+_, _*_, _≤_, _<_}
-use Prim.Native.String.{String}
 use native.Mathlib.Omega.{arith}
-use Rattle.csl.specs.Limits.{billion, widthFactor, spareSteps}
+use Rattle.csl.specs.Limits.{widthFactor, spareSteps}
 use Rattle.csl.specs.Formula.{Formula, until, Comparison, AtMost, AtLeast, More}
-use Rattle.csl.specs.Fraction.{Fraction, frac, IsFraction, Below, times, sumUp, billionths}
+use Rattle.csl.specs.Fraction.{frac, IsFraction, Below, times, sumUp, billionths}
 use Rattle.csl.specs.Chain.{Chain, load, depth}
-use Rattle.csl.specs.Phase.{untilPhase, divisor, stepTop, weight, quotient, untilQuotient}
-use Rattle.csl.specs.Verdicts.{Verdict, No, Yes, Undecided, Reading, asNo}
+use Rattle.csl.specs.Phase.{untilPhase, divisor, stepTop, weight, untilQuotient}
+use Rattle.csl.specs.Verdicts.{Verdict, Yes, Reading, asNo}
 use Rattle.csl.specs.Ends.{AllDecided}
-use Rattle.csl.specs.Backing.{Backed, NothingUndecided}
+use Rattle.csl.specs.Backing.{AtEach, Backed, NothingUndecided}
 use Rattle.csl.specs.Truth.{Obeys, Throughout}
 use Rattle.csl.specs.Report.{Reported}
 use Rattle.csl.specs.Refusal.{Job, jobChain}
 use Rattle.csl.specs.Bench.{small, up, dead, Accepts, BenchValues, EightHours, TrialQuotients}
 use Rattle.csl.specs.Laws.Computing.{computing}
-use Rattle.csl.specs.Laws.Fraction.{Under, under-below}
+use Rattle.csl.specs.Laws.Fraction.{under-below}
 use Rattle.csl.specs.Laws.Steps.{step-le, step-rises, divisor-some}
 use Rattle.csl.specs.Laws.Quotient.{Implies, until-starts, until-under, until-is, until-le, until-rises, weights-some}
 use Rattle.csl.specs.Laws.Tail.{half-weight, light-from, after}
 use Rattle.csl.specs.Laws.Enclosure.{Encloses, encloses}
 use Rattle.csl.specs.Laws.Settled.{verdicts-obey}
-use Rattle.csl.specs.Laws.Throughout.{throughout}
+use Rattle.csl.specs.Laws.Throughout.{throughout, Together, backings-agree}
 use Rattle.csl.specs.Laws.Report.{report-agrees}
 use Rattle.csl.specs.Laws.Bench as bench
 use Rattle.csl.specs.Laws.Trial as trial
@@ -55,6 +54,11 @@ tables-agree-at-every-node c f v table k o = throughout c f v table k o
 pub tables-agree-with-the-report : (c : Chain) (f : Formula) (lower upper : ℕ → ℕ) (v : ℕ → Verdict) (table : ℕ → Bool)
     → Reported c f lower upper v → Obeys c f table → Reading (c .states) v table
 tables-agree-with-the-report c f lower upper v table k o = report-agrees c f lower upper v table k o
+
+-- and so no two backings stand yes against no
+pub backings-never-contradict : (c : Chain) (f : Formula) (v w : ℕ → Verdict) → Backed c f v → Backed c f w
+    → AtEach c λ s. Together (v s) (w s)
+backings-never-contradict c f v w k m = backings-agree c f v w k m
 
 -- T3. Demand 3: "with nothing undecided the verdicts are such a table".
 pub decided-verdicts-are-a-table : (c : Chain) (f : Formula) (v : ℕ → Verdict) (k : Backed c f v) → NothingUndecided c f v k

@@ -9,7 +9,7 @@ use Rattle.csl.specs.Chain.{Chain}
 use Rattle.csl.specs.Phase.{untilQuotient}
 use Rattle.csl.specs.Limit.{LimitIs, opposite}
 use Rattle.csl.specs.Verdicts.{Verdict, Reading}
-use Rattle.csl.specs.Backing.{AtEach, Backed, NotBacked, BothBacked, UntilBacked, SomeEnds}
+use Rattle.csl.specs.Backing.{AtEach, Backed}
 
 -- ".. `tt`, labels, `!` and `&` have what this section gives them"
 pub record NotTrue (c : Chain) (A : (ℕ → Bool) → Type 0) (b : ℕ → Bool) : Type 0 where

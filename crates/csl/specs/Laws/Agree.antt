@@ -1,5 +1,5 @@
 -- Every truth table that obeys CSL's rules agrees with every backing, given that for one `P`. Assumes nothing.
-use mathlib.Core.Path.{_≡_, refl, ap, sym, _∙_, subst}
+use mathlib.Core.Path.{_≡_, refl}
 use mathlib.Core.Bool.{Bool, true, false, not, _&&_}
 use Prim.Native.Nat.{ℕ, _<_}
 use Rattle.csl.specs.Formula.{Comparison, Formula, always, label, negated, both, until}
@@ -7,8 +7,8 @@ use Rattle.csl.specs.Chain.{Chain}
 use Rattle.csl.specs.Phase.{untilQuotient}
 use Rattle.csl.specs.Verdicts.{Verdict, No, Yes, Undecided, marked, negation, conjunction, judged, Agrees, Reading}
 use Rattle.csl.specs.Ends.{EndsAt}
-use Rattle.csl.specs.Backing.{AtEach, Backed, NotBacked, BothBacked, UntilBacked, SomeEnds}
-use Rattle.csl.specs.Truth.{Entry, Obeys, NotTrue, BothTrue, UntilTrue}
+use Rattle.csl.specs.Backing.{Backed}
+use Rattle.csl.specs.Truth.{Entry, Obeys}
 
 pub agrees-yes : {b : Bool} → b ≡ true → Agrees Yes b
 unfolding Agrees

@@ -1,12 +1,12 @@
 -- How a backing is made, node by node, and that it depends on the verdicts at the chain's states alone. Assumes nothing.
 use mathlib.Core.Path.{_≡_, _∙_}
-use Prim.Native.Nat.{ℕ, _<_}
+use Prim.Native.Nat.{ℕ}
 use Rattle.csl.specs.Text.{Text}
 use Rattle.csl.specs.Formula.{Comparison, Formula, always, label, negated, both, until}
 use Rattle.csl.specs.Chain.{Chain}
-use Rattle.csl.specs.Verdicts.{Verdict, No, Yes, Undecided, marked, negation, conjunction, judged}
+use Rattle.csl.specs.Verdicts.{Verdict, Yes, marked, negation, conjunction, judged}
 use Rattle.csl.specs.Ends.{EndsAt}
-use Rattle.csl.specs.Backing.{AtEach, Backed, NotBacked, BothBacked, UntilBacked, SomeEnds}
+use Rattle.csl.specs.Backing.{AtEach, Backed}
 
 module _ (c : Chain) where
   pub backed-always : (v : ℕ → Verdict) → AtEach c (λ s. v s ≡ Yes) → Backed c always v

@@ -1,17 +1,16 @@
 -- The starred bench values hold. Assumes nothing.
-use mathlib.Core.Path.{_≡_, refl, ap, sym, _∙_}
+use mathlib.Core.Path.{_≡_, refl, ap, _∙_}
 use mathlib.Core.Bool.{Bool, true, false, cond}
-use Prim.Native.Nat.{ℕ, zero, suc, _+_, _*_, _≤_, _<_}
+use Prim.Native.Nat.{ℕ, _*_, _<_}
 use mathlib.Core.List.{_++_}
 use native.Mathlib.Omega.{arith}
 use lib.Dec.{leb·zero}
 use Rattle.csl.specs.Text.{Text, bytes}
 use Rattle.csl.specs.Limits.{billion}
-use Rattle.csl.specs.Formula.{Formula, always, label, negated, both, until, Comparison, AtLeast}
+use Rattle.csl.specs.Formula.{always, label, negated, both, until, Comparison, AtLeast}
 use Rattle.csl.specs.Chain.{Chain, topRate}
-use Rattle.csl.specs.Verdicts.{Verdict, No, Yes, Undecided, marked, negation, conjunction, judged, asNo, asYes}
-use Rattle.csl.specs.Ends.{EndsAt}
-use Rattle.csl.specs.Backing.{AtEach, Backed, UntilBacked}
+use Rattle.csl.specs.Verdicts.{Verdict, No, Yes, marked, negation, conjunction, judged, asNo, asYes}
+use Rattle.csl.specs.Backing.{Backed}
 use Rattle.csl.specs.Report.{Reported, lowerOf, upperOf, rowText, rowsText, reportText}
 use Rattle.csl.specs.Refusal.{jobChain}
 use Rattle.csl.specs.Bench.{small, still, up, dead, negatedTimes, Prints, BenchValues}

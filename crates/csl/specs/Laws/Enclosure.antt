@@ -5,7 +5,7 @@ use Rattle.csl.specs.Fraction.{Below, billionths}
 use Rattle.csl.specs.Chain.{Chain, depth}
 use Rattle.csl.specs.Phase.{untilQuotient}
 use Rattle.csl.specs.Verdicts.{Verdict, Reading}
-use Rattle.csl.specs.Ends.{EndsAt, lowQuotient, highQuotient}
+use Rattle.csl.specs.Ends.{EndsAt}
 use Rattle.csl.specs.Laws.Fraction.{under-left, under-right}
 use Rattle.csl.specs.Laws.Quotient.{low-under, high-over}
 

@@ -1,14 +1,14 @@
 -- What follows from the rules for ends, and ends that keep them where nothing has to be summed. Assumes nothing.
-use mathlib.Core.Path.{_≡_, refl, ap, sym, _∙_}
+use mathlib.Core.Path.{_≡_, refl}
 use mathlib.Core.Bool.{Bool, true, false, not, _||_}
-use Prim.Native.Nat.{ℕ, zero, suc, _+_, _*_, _≤_, _<_}
+use Prim.Native.Nat.{ℕ, _*_, _≤_, _<_}
 use native.Mathlib.Omega.{arith}
-use native.Mathlib.Nat.{mul-le-mul-left, mul-le-mul-right, le-refl, le-of-mul-le-mul-right}
-use Rattle.csl.specs.Fraction.{Fraction, frac, IsFraction, Below, Same, plus, billionths}
+use native.Mathlib.Nat.{le-refl, le-of-mul-le-mul-right}
+use Rattle.csl.specs.Fraction.{Fraction, frac, Below, Same, billionths}
 use Rattle.csl.specs.Chain.{Chain, load, topRate, depth}
-use Rattle.csl.specs.Phase.{bit, untilPhase, divisor, stepTop, stepValue, quotient, untilQuotient}
-use Rattle.csl.specs.Verdicts.{Verdict, No, Yes, Undecided, Agrees, Reading, Decided, asNo, asYes, least, most}
-use Rattle.csl.specs.Ends.{EndsAt, AllDecided, slack, lowQuotient, highQuotient}
+use Rattle.csl.specs.Phase.{bit, untilPhase, divisor, stepTop, stepValue, untilQuotient}
+use Rattle.csl.specs.Verdicts.{Verdict, No, Yes, Undecided, asNo, asYes, least, most}
+use Rattle.csl.specs.Ends.{EndsAt, lowQuotient, highQuotient}
 use Rattle.csl.specs.Laws.Fraction.{Under, under-right, below-trans}
 use Rattle.csl.specs.Laws.Quotient.{until-is, until-le, until-rises}
 use Rattle.csl.specs.Laws.Point.{step-empty, step-one, step-nil, quotient-ge, quotient-nil, quotient-first}

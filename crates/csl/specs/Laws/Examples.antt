@@ -1,27 +1,24 @@
 -- Two jobs over the small sheet that have a backing, written out: the rules for ends can be kept, with a `P` within a `P`, and with an
 -- undecided state. Assumes nothing.
-use mathlib.Core.Path.{_≡_, refl, ap, sym, _∙_}
-use mathlib.Core.Bool.{Bool, true, false, cond, not, _||_}
+use mathlib.Core.Path.{_≡_, refl, _∙_}
+use mathlib.Core.Bool.{true, false, cond}
 use Prim.Native.Nat.{ℕ, zero, suc, _+_, _*_, _≤_, _<_}
 use native.Mathlib.Omega.{arith}
-use native.Mathlib.Nat.{mul-le-mul-right}
-use Rattle.csl.specs.Text.{bytes}
 use Rattle.csl.specs.Limits.{billion}
-use Rattle.csl.specs.Formula.{Formula, until, Comparison, AtMost, AtLeast, More}
-use Rattle.csl.specs.Fraction.{Fraction, Below, plus, billionths}
-use Rattle.csl.specs.Chain.{Chain, topRate, load, depth}
-use Rattle.csl.specs.Phase.{Phase, untilPhase, stepValue, untilQuotient}
+use Rattle.csl.specs.Formula.{until, Comparison, AtMost, AtLeast, More}
+use Rattle.csl.specs.Fraction.{Below, billionths}
+use Rattle.csl.specs.Chain.{topRate, depth}
 use Rattle.csl.specs.Verdicts.{Verdict, No, Yes, Undecided, marked, judged, least, most}
 use Rattle.csl.specs.Ends.{EndsAt, slack, lowQuotient, highQuotient}
-use Rattle.csl.specs.Backing.{AtEach, Backed, UntilBacked}
+use Rattle.csl.specs.Backing.{AtEach, Backed}
 use Rattle.csl.specs.Report.{Reported}
-use Rattle.csl.specs.Refusal.{jobChain, jobFormula}
-use Rattle.csl.specs.Bench.{small, up, dead}
+use Rattle.csl.specs.Bench.{up, dead}
 use Rattle.csl.specs.Laws.Computing.{computing}
-use Rattle.csl.specs.Laws.Quotient.{until-le}
+use Rattle.csl.specs.Laws.Verdicts.{yes-or-no}
+use Rattle.csl.specs.Laws.SummedEnds.{more-room, wider}
 use Rattle.csl.specs.Laws.Readings.{low-marks, high-marks, below-same, same-below}
 use Rattle.csl.specs.Laws.Ends.{until-one, until-nowhere}
-use Rattle.csl.specs.Laws.PointEnds.{yes-or-no, ends-certain, ends-impossible}
+use Rattle.csl.specs.Laws.PointEnds.{ends-certain, ends-impossible}
 use Rattle.csl.specs.Laws.EightHours.{sheet, isUp, isDead, two-states, depth-is, at-least, at-most}
 
 -- both states
@@ -50,12 +47,6 @@ dead-0 = refl
 dead-1 : marked (isDead 1) ≡ Yes
 unfolding computing
 dead-1 = refl
-
-wider : (x : Fraction) (a b : ℕ) → a ≤ b → Below x (billionths a) → Below x (billionths b)
-wider x a b l h = omega (arith, mul-le-mul-right (x .bottom) l)
-
-room-above : (x : Fraction) (a b e : ℕ) → b ≤ a + e → Below (billionths a) x → Below (billionths b) (plus x (billionths e))
-room-above x a b e l h = omega (arith, mul-le-mul-right (x .bottom) l)
 
 -- state 0 of `U 8 up dead`, also where the operands are other nodes with those verdicts: 3,992,010 to 3,992,011
 module _ (v w : ℕ → Verdict) (h : AtEach sheet (λ s. v s ≡ marked (isUp s))) (k : AtEach sheet (λ s. w s ≡ marked (isDead s))) where
@@ -86,7 +77,7 @@ module _ (v w : ℕ → Verdict) (h : AtEach sheet (λ s. v s ≡ marked (isUp s
         lower-side = low-least;
         lower-near = λ n d. wider _ 3992011 (3992010 + slack sheet 8) (omega (arith, depth-is)) (low-most n d);
         upper-side = high-most;
-        upper-near = λ n d. room-above _ 3992010 3992011 (slack sheet 8) (omega (arith, depth-is)) (high-least n d);
+        upper-near = λ n d. more-room _ 3992010 3992011 (slack sheet 8) (omega (arith, depth-is)) (high-least n d);
         width = λ i j. omega (arith, depth-is);
         lower-range = omega arith;
         upper-range = omega arith;

@@ -1,5 +1,5 @@
 -- The limit meaning against two ends: what a judgement says of the limit. Assumes nothing.
-use mathlib.Core.Path.{_≡_, refl, sym, _∙_}
+use mathlib.Core.Path.{_≡_, refl, sym}
 use mathlib.Core.Bool.{Bool, true, false, cond, true≢false}
 use Prim.Native.Nat.{ℕ, _+_, _*_, _≤_, _<_}
 use native.Mathlib.Omega.{arith}
@@ -8,7 +8,7 @@ use lib.Dec.{leb, ltb}
 use borrow.Author.Tests.{leb-true, ltb-true}
 use Rattle.csl.specs.Formula.{Comparison, Less, AtMost, AtLeast, More}
 use Rattle.csl.specs.Fraction.{Fraction, IsFraction, Below, plus, billionths, part}
-use Rattle.csl.specs.Limit.{FromSome, ForSome, ForEach, LimitIs, opposite}
+use Rattle.csl.specs.Limit.{FromSome, LimitIs, opposite}
 use Rattle.csl.specs.Verdicts.{Verdict, No, Yes, Undecided, negation, judged, judgedAtLeast, judgedMore, Agrees, Decided, asNo}
 use Rattle.csl.specs.Truth.{Entry}
 

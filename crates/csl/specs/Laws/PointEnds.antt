@@ -1,19 +1,17 @@
 -- Ends that keep the rules where nothing has to be summed: certain, impossible, load 0. Assumes nothing.
-use mathlib.Core.Path.{_≡_, refl, ap, sym, _∙_}
-use mathlib.Core.Bool.{Bool, true, false, cond}
-use Prim.Native.Nat.{ℕ, zero, suc, _+_, _*_, _≤_, _<_}
+use mathlib.Core.Path.{_≡_, refl, ap}
+use mathlib.Core.Bool.{Bool, true, false}
+use Prim.Native.Nat.{ℕ, _*_, _≤_, _<_}
 use native.Mathlib.Omega.{arith}
-use native.Mathlib.Nat.{le-refl, eq-of-mul-eq-mul-right}
-use Rattle.csl.specs.Fraction.{Fraction, frac, IsFraction, Below, Same, plus, billionths}
-use Rattle.csl.specs.Chain.{Chain, topRate, depth}
-use Rattle.csl.specs.Phase.{bit, untilQuotient}
-use Rattle.csl.specs.Verdicts.{Verdict, No, Yes, Undecided, Decided, asNo, asYes, least, most}
-use Rattle.csl.specs.Ends.{EndsAt, AllDecided, slack, lowQuotient, highQuotient}
+use native.Mathlib.Nat.{eq-of-mul-eq-mul-right}
+use Rattle.csl.specs.Fraction.{Fraction, frac, Same}
+use Rattle.csl.specs.Chain.{Chain, topRate}
+use Rattle.csl.specs.Phase.{bit}
+use Rattle.csl.specs.Verdicts.{Verdict, No, Yes, asNo, asYes, least, most}
+use Rattle.csl.specs.Ends.{EndsAt, lowQuotient, highQuotient}
+use Rattle.csl.specs.Laws.Verdicts.{yes-or-no, decided-same}
 use Rattle.csl.specs.Laws.Quotient.{until-is}
 use Rattle.csl.specs.Laws.Ends.{until-one, until-nil, until-still}
-
-pub yes-or-no : {x : Verdict} {A : Type 0} → x ≡ Yes → x ≡ No → A
-yes-or-no {x} h k = let z : _≡_ {A = ℕ} 0 1 = cc in absurd (omega arith)
 
 module _ (c : Chain) (t : ℕ) (v w : ℕ → Verdict) (s : ℕ) (in-range : s < c .states) where
   pub ends-certain : w s ≡ Yes → EndsAt c t v w s 1000000000 1000000000
@@ -51,11 +49,6 @@ module _ (c : Chain) (t : ℕ) (v w : ℕ → Verdict) (s : ℕ) (in-range : s <
         lower-exact = λ z n. omega (arith, low n);
         upper-exact = λ z n. omega (arith, high n);
       }
-
-  decided-same : (x : Verdict) → Decided x → asNo x ≡ asYes x
-  decided-same No d = refl
-  decided-same Yes d = refl
-  decided-same Undecided d = absurd d
 
   bit-small : (b : Bool) → 1000000000 * bit b ≤ 1000000000
   bit-small true = omega arith

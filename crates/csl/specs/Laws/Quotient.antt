@@ -1,12 +1,12 @@
 -- Quotients: they are fractions, lie from 0 to 1, and rise with the values and with the reading. Assumes nothing.
 use mathlib.Core.Path.{_≡_, refl, sym, _∙_}
 use mathlib.Core.Bool.{Bool, true, false, not, _||_, true≢false}
-use Prim.Native.Nat.{ℕ, zero, suc, _+_, _*_, _≤_, _<_}
+use Prim.Native.Nat.{ℕ, zero, suc, _≤_, _<_}
 use native.Mathlib.Omega.{arith}
-use native.Mathlib.Nat.{mul-pos, le-refl}
-use Rattle.csl.specs.Fraction.{Fraction, frac, IsFraction, Below, times, sumUp}
+use native.Mathlib.Nat.{mul-pos}
+use Rattle.csl.specs.Fraction.{Fraction, IsFraction, times, sumUp}
 use Rattle.csl.specs.Chain.{Chain, load}
-use Rattle.csl.specs.Phase.{Phase, bit, untilPhase, divisor, stepTop, stepValue, weight, quotient, untilQuotient}
+use Rattle.csl.specs.Phase.{bit, untilPhase, stepValue, weight, quotient, untilQuotient}
 use Rattle.csl.specs.Verdicts.{Verdict, No, Yes, Undecided, Agrees, Reading, asNo, asYes, least, most}
 use Rattle.csl.specs.Ends.{lowQuotient, highQuotient}
 use Rattle.csl.specs.Laws.Fraction.{Under, under-sum, under-times, under-over, below-sum, times-below, sum-is, sum-some}

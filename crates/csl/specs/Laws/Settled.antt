@@ -1,14 +1,14 @@
 -- tables-agree: every truth table that obeys CSL's rules agrees with every backing. verdicts-obey: a backing with nothing undecided is such a table. Assumes nothing.
-use mathlib.Core.Path.{_≡_, refl, ap, _∙_}
-use mathlib.Core.Bool.{Bool, true, false, not, _&&_}
+use mathlib.Core.Bool.{Bool}
 use Prim.Native.Nat.{ℕ, _<_}
 use Rattle.csl.specs.Formula.{Comparison, Formula, always, label, negated, both, until}
 use Rattle.csl.specs.Chain.{Chain, depth}
 use Rattle.csl.specs.Phase.{untilQuotient}
-use Rattle.csl.specs.Verdicts.{Verdict, No, Yes, Undecided, marked, negation, conjunction, judged, Agrees, Reading, Decided, asNo}
+use Rattle.csl.specs.Verdicts.{Verdict, judged, Reading, asNo}
 use Rattle.csl.specs.Ends.{EndsAt, AllDecided}
-use Rattle.csl.specs.Backing.{NothingUndecided, AtEach, Backed, NotBacked, BothBacked, UntilBacked, SomeEnds}
-use Rattle.csl.specs.Truth.{Entry, Obeys, NotTrue, BothTrue, UntilTrue}
+use Rattle.csl.specs.Backing.{NothingUndecided, Backed}
+use Rattle.csl.specs.Truth.{Obeys}
+use Rattle.csl.specs.Laws.Verdicts.{as-no-reads, as-no-mark, as-no-not, as-no-and}
 use Rattle.csl.specs.Laws.Quotient.{until-is}
 use Rattle.csl.specs.Laws.Enclosure.{Encloses, encloses}
 use Rattle.csl.specs.Laws.Judging.{Settles, settles, entry-agrees, entry-obeys}
@@ -29,26 +29,6 @@ until-agrees c r p t v w x y s lower upper b l e h k o =
 
 pub tables-agree : (c : Chain) (f : Formula) (v : ℕ → Verdict) (b : ℕ → Bool) → Backed c f v → Obeys c f b → Reading (c .states) v b
 tables-agree c f v b k o = agrees c (until-agrees c) f v b k o
-
-as-no-reads : (v : Verdict) → Agrees v (asNo v)
-unfolding Agrees
-as-no-reads No = refl
-as-no-reads Yes = refl
-as-no-reads Undecided = tt
-
-as-no-mark : (b : Bool) → asNo (marked b) ≡ b
-as-no-mark true = refl
-as-no-mark false = refl
-
-as-no-not : (v : Verdict) → Decided v → asNo (negation v) ≡ not (asNo v)
-as-no-not No d = refl
-as-no-not Yes d = refl
-as-no-not Undecided d = absurd d
-
-as-no-and : (v w : Verdict) → Decided v → Decided w → asNo (conjunction v w) ≡ (asNo v && asNo w)
-as-no-and No w d e = refl
-as-no-and Yes w d e = refl
-as-no-and Undecided w d e = absurd d
 
 root : (c : Chain) (f : Formula) (v : ℕ → Verdict) (k : Backed c f v) → NothingUndecided c f v k → AllDecided c v
 unfolding Backed NothingUndecided

@@ -1,14 +1,14 @@
 -- Ends from sums: a lower bound of each reading and one of what it leaves of 1. Assumes nothing.
-use mathlib.Core.Path.{_≡_, refl, ap, sym}
+use mathlib.Core.Path.{_≡_}
 use mathlib.Core.Bool.{Bool}
 use Prim.Native.Nat.{ℕ, _+_, _*_, _-_, _≤_, _<_}
 use native.Mathlib.Omega.{arith}
-use native.Mathlib.Nat.{mul-le-mul-left, mul-le-mul-right}
+use native.Mathlib.Nat.{mul-le-mul-right}
 use Rattle.csl.specs.Fraction.{Fraction, Below, plus, billionths}
 use Rattle.csl.specs.Chain.{Chain, topRate, depth}
 use Rattle.csl.specs.Phase.{untilQuotient}
-use Rattle.csl.specs.Verdicts.{Verdict, No, Yes, Undecided, least, most}
-use Rattle.csl.specs.Ends.{EndsAt, AllDecided, slack, lowQuotient, highQuotient}
+use Rattle.csl.specs.Verdicts.{Verdict, No, Yes, least, most}
+use Rattle.csl.specs.Ends.{EndsAt, AllDecided, slack}
 use Rattle.csl.specs.Laws.Complement.{upper-left, until-share, leftQuotient}
 
 -- from D on the quotients are at least `low` billionths, and what they leave of 1 is at least `left`; these leave at most 4 × D open
@@ -17,7 +17,11 @@ pub record Bounds (c : Chain) (t : ℕ) (x y : ℕ → Bool) (s low left : ℕ) 
   pub missed : (n : ℕ) → depth c t ≤ n → Below (billionths left) (leftQuotient c t x y s n)
   pub together : 1000000000 ≤ low + left + slack c t
 
-more-room : (x : Fraction) (a b e : ℕ) → b ≤ a + e → Below (billionths a) x → Below (billionths b) (plus x (billionths e))
+-- an end that lies further out
+pub wider : (x : Fraction) (a b : ℕ) → a ≤ b → Below x (billionths a) → Below x (billionths b)
+wider x a b l h = omega (arith, mul-le-mul-right (x .bottom) l)
+
+pub more-room : (x : Fraction) (a b e : ℕ) → b ≤ a + e → Below (billionths a) x → Below (billionths b) (plus x (billionths e))
 more-room x a b e l h = omega (arith, mul-le-mul-right (x .bottom) l)
 
 module _ (c : Chain) (t : ℕ) (v w : ℕ → Verdict) (s low left low' left' : ℕ) (in-range : s < c .states)

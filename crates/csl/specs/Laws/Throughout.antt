@@ -1,14 +1,14 @@
 -- tables-agree at every node; and two backings never stand against each other. Assumes nothing.
-use mathlib.Core.Path.{_≡_, refl, ap, sym, _∙_}
-use mathlib.Core.Bool.{Bool, true, false, not, _&&_, _||_, true≢false}
-use Prim.Native.Nat.{ℕ, _<_}
+use mathlib.Core.Path.{refl, sym, _∙_}
+use mathlib.Core.Bool.{Bool, true, false, not, _&&_, _||_}
+use Prim.Native.Nat.{ℕ}
 use Rattle.csl.specs.Formula.{Comparison, Formula, always, label, negated, both, until}
 use Rattle.csl.specs.Fraction.{Fraction, IsFraction}
 use Rattle.csl.specs.Chain.{Chain}
 use Rattle.csl.specs.Phase.{untilQuotient}
-use Rattle.csl.specs.Verdicts.{Verdict, No, Yes, Undecided, marked, negation, conjunction, judged, Agrees, Reading, asNo}
-use Rattle.csl.specs.Backing.{AtEach, Backed, NotBacked, BothBacked, UntilBacked, SomeEnds}
-use Rattle.csl.specs.Truth.{Throughout, Obeys, NotTrue, BothTrue, UntilTrue}
+use Rattle.csl.specs.Verdicts.{Verdict, No, Yes, Undecided, Agrees, asNo}
+use Rattle.csl.specs.Backing.{AtEach, Backed}
+use Rattle.csl.specs.Truth.{Throughout, Obeys}
 use Rattle.csl.specs.Laws.Quotient.{until-is}
 use Rattle.csl.specs.Laws.Judging.{Settles, apart}
 use Rattle.csl.specs.Laws.Agree.{agrees-mark, agrees-not, agrees-and}
