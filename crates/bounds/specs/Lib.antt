@@ -1,7 +1,15 @@
--- Whole-number bounds of weights, step values and quotients.
+-- Whole-number bounds of weights, step values and quotients, and the ends of an until that they give.
 pub mod Exact
 pub mod Ladder
 pub mod Weight
 pub mod Under
 pub mod Ends
 pub mod Width
+pub mod Values
+pub mod Rounded
+pub mod Together
+pub mod Quotient
+pub mod PhaseEnd
+pub mod Reading
+pub mod UntilEnds
+pub mod Found

@@ -1,0 +1,70 @@
+-- The two ends of an until at a state, by cases as the code decides them, keep the rules for ends. Assumes nothing.
+use mathlib.Core.Path.{_≡_, refl, ap, sym, _∙_}
+use mathlib.Core.Bool.{Bool, true, false, cond}
+use Prim.Native.Nat.{ℕ, _*_, _-_, _≤_, _<_}
+use native.Mathlib.Omega.{arith}
+use lib.Dec.{eqb}
+use borrow.Author.Tests.{eqb-true, eqb-false}
+use Rattle.csl.specs.Limits.{billion, rateHours}
+use Rattle.csl.specs.Chain.{Chain, topRate, depth}
+use Rattle.csl.specs.Phase.{bit, untilPhase}
+use Rattle.csl.specs.Verdicts.{Verdict, No, Yes, Undecided, asNo, asYes, least, most}
+use Rattle.csl.specs.Ends.{EndsAt}
+use Rattle.csl.specs.Laws.Complement.{complement}
+use Rattle.csl.specs.Laws.Ends.{ordered}
+use Rattle.csl.specs.Laws.PointEnds.{ends-certain, ends-impossible, ends-still}
+use Rattle.bounds.specs.Width.{mostDepth}
+use Rattle.bounds.specs.Values.{Rounds, pointed, lowerOf, upperOf}
+use Rattle.bounds.specs.Reading.{summedEnd, summed-ends}
+
+-- the ends at state s of an until over t hours, from the rounded values of its two phases; v and w are the operands' verdicts
+abbrev pub untilLower : Chain → ℕ → (v w : ℕ → Verdict) (val : ℕ → ℕ → ℕ) → ℕ → ℕ
+untilLower c t v w val s = lowerOf (topRate c * t) rateHours (depth c t) (v s) (w s) (λ k. val k s)
+
+abbrev pub untilUpper : Chain → ℕ → (v w : ℕ → Verdict) (left : ℕ → ℕ → ℕ) → ℕ → ℕ
+untilUpper c t v w left s = upperOf (topRate c * t) rateHours (depth c t) (v s) (w s) (λ k. left k s)
+
+-- no state has two verdicts
+abbrev place : Verdict → ℕ
+place No = 0
+place Yes = 1
+place Undecided = 2
+
+differ : {x y z : Verdict} → x ≡ y → x ≡ z → (place y ≡ place z → ⊥) → ⊥
+differ h k n = n (ap place (sym h ∙ k))
+
+module _ (c : Chain) (t s : ℕ) (v w : ℕ → Verdict) (in-range : s < c .states) where
+  -- where the operands' verdicts alone do not settle the ends, others do
+  point-ends : (x y : Verdict) (lower upper : ℕ) → v s ≡ x → w s ≡ y
+      → ((w s ≡ Yes → ⊥) → (v s ≡ No → w s ≡ No → ⊥) → EndsAt c t v w s lower upper)
+      → EndsAt c t v w s (pointed x y lower) (pointed x y upper)
+  point-ends x Yes lower upper e f h = ends-certain c t v w s in-range f
+  point-ends No No lower upper e f h = ends-impossible c t v w s in-range e f
+  point-ends Yes No lower upper e f h = h (λ i. differ i f λ z. omega arith) (λ i j. differ i e λ z. omega arith)
+  point-ends Undecided No lower upper e f h = h (λ i. differ i f λ z. omega arith) (λ i j. differ i e λ z. omega arith)
+  point-ends x Undecided lower upper e f h = h (λ i. differ i f λ z. omega arith) (λ i j. differ j f λ z. omega arith)
+
+  module _ (val left : ℕ → ℕ → ℕ) (small : depth c t ≤ mostDepth) (r : 0 < topRate c * t → Rounds c (untilPhase (least v) (least w)) val)
+      (r' : 0 < topRate c * t → Rounds c (complement (untilPhase (most v) (most w))) left) where
+    -- with load 0 the exact values, else the sums
+    still-ends : (z : Bool) → eqb (topRate c * t) 0 ≡ z → (w s ≡ Yes → ⊥) → (v s ≡ No → w s ≡ No → ⊥)
+        → EndsAt c t v w s (cond z (billion * bit (asNo (w s))) (summedEnd c t val s))
+        (cond z (billion * bit (asYes (w s))) (billion - summedEnd c t left s))
+    still-ends true e i j = ends-still c t v w s in-range (eqb-true _ _ e)
+    still-ends false e i j =
+        let n : topRate c * t ≡ 0 → ⊥ = eqb-false _ _ e in
+        let p : 0 < topRate c * t = omega arith in
+        summed-ends c t s in-range small p v w val left (r p) (r' p) i j
+
+    -- the ends keep every rule
+    pub until-ends : EndsAt c t v w s (untilLower c t v w val s) (untilUpper c t v w left s)
+    until-ends = point-ends (v s) (w s) _ _ refl refl (still-ends (eqb (topRate c * t) 0) refl)
+
+    pub until-lower-most : untilLower c t v w val s ≤ billion
+    until-lower-most = until-ends .lower-range
+
+    pub until-upper-most : untilUpper c t v w left s ≤ billion
+    until-upper-most = until-ends .upper-range
+
+    pub until-ordered : untilLower c t v w val s ≤ untilUpper c t v w left s
+    until-ordered = ordered c t v w s _ _ in-range until-ends

@@ -1,0 +1,133 @@
+"""Jobs for tests: made, damaged, and put at the limits, from a seeded generator.
+
+A job is a tuple of the three texts (moves, labels, formula) as bytes.
+"""
+from reckoning.bracket import bracket
+from reckoning.chain import Chain
+
+MOST_RATE = 64_000_000
+MOST_LOAD = 64_000_000
+NAMES = [b"up", b"dead", b"power", b"gamma", b"locator", b"gun", b"wet", b"hot"]
+SIGNS = [b"<", b"<=", b">=", b">"]
+
+
+def moves_text(moves):
+    return b"from,to,rate\n" + b"".join(b"%d,%d,%d\n" % move for move in moves)
+
+
+def labels_text(names, rows):
+    lines = (b",".join([b"%d" % s, *(b"%d" % mark for mark in row)]) for s, row in enumerate(rows))
+    return b",".join([b"state", *names]) + b"\n" + b"".join(line + b"\n" for line in lines)
+
+
+class Sheet:
+    """A random chain with its two texts."""
+
+    def __init__(self, rng, most_states=6):
+        self.states = rng.randint(1, most_states)
+        self.names = rng.sample(NAMES, rng.randint(1, 4))
+        self.rows = [[rng.randint(0, 1) for _ in self.names] for _ in range(self.states)]
+        self.moves = self.random_moves(rng)
+        self.chain = Chain(self.states, {(a, b): rate for a, b, rate in self.moves}, {})
+        self.moves_text = moves_text(self.moves)
+        self.labels_text = labels_text(self.names, self.rows)
+
+    def random_moves(self, rng):
+        scale = rng.choice([1, 50, 1_000, 1_000_000, 8_000_000])
+        dense = rng.random()
+        moves = []
+        for a in range(self.states):
+            left = MOST_RATE
+            for b in range(self.states):
+                if a != b and rng.random() < dense and left:
+                    rate = min(left, rng.randint(1, scale))
+                    left -= rate
+                    moves.append((a, b, rate))
+        return moves
+
+    def marks(self, name):
+        return tuple(bool(row[self.names.index(name)]) for row in self.rows)
+
+    def hours(self, rng, most_load):
+        """Hours whose load is at most `most_load` × 1,000,000."""
+        most = 8_760 if not self.chain.q else min(8_760, most_load * 1_000_000 // self.chain.q)
+        return rng.choice([0, most, rng.randint(0, most)])
+
+
+def random_formula(rng, sheet, levels, most_load):
+    """A state formula as tokens, at most so many levels deep."""
+    kind = rng.choice("tlll!&PPPP") if levels > 1 else rng.choice("tlll")
+    if kind == "t":
+        return [b"tt"]
+    if kind == "l":
+        return [rng.choice(sheet.names)]
+    first = random_formula(rng, sheet, levels - 1, most_load)
+    if kind == "!":
+        return [b"!", *first]
+    second = random_formula(rng, sheet, levels - 1, most_load)
+    if kind == "&":
+        return [b"&", *first, *second]
+    hours = sheet.hours(rng, most_load)
+    threshold = rng.choice([0, 1, 10**9, rng.randint(0, 10**9), near(rng, sheet, hours)])
+    return [b"P", rng.choice(SIGNS), b"%d" % threshold, b"U", b"%d" % hours, *first, *second]
+
+
+def near(rng, sheet, hours):
+    """A threshold that lies close to some until's probability, so that verdicts come out undecided."""
+    first, second = (sheet.marks(rng.choice(sheet.names)) for _ in range(2))
+    bounds = rng.choice(bracket(sheet.chain, first, second, hours))
+    return max(0, min(10**9, bounds.down + rng.randint(-1, 2)))
+
+
+def near_formula(rng, sheet, hours):
+    """An until whose threshold is one of the two whole billionths about its own probability at some state."""
+    names = rng.choice(sheet.names), rng.choice(sheet.names)
+    bounds = rng.choice(bracket(sheet.chain, *map(sheet.marks, names), hours))
+    return [b"P", rng.choice(SIGNS), b"%d" % rng.choice(bounds), b"U", b"%d" % hours, *names]
+
+
+def random_job(rng, most_states=6, levels=4, most_load=3):
+    sheet = Sheet(rng, most_states)
+    if rng.random() < 0.3:
+        inner = near_formula(rng, sheet, sheet.hours(rng, most_load))
+        outer = [b"P", rng.choice(SIGNS), b"%d" % rng.randint(0, 10**9), b"U", b"%d" % sheet.hours(rng, most_load)]
+        other = [rng.choice(sheet.names)]
+        tokens = outer + (inner + other if rng.random() < 0.5 else other + inner)
+    else:
+        tokens = random_formula(rng, sheet, levels, most_load)
+    return sheet.moves_text, sheet.labels_text, b" ".join(tokens) + b"\n"
+
+
+def damaged(rng, text):
+    """A text with a byte or a line changed, dropped, doubled, swapped."""
+    if not text:
+        return b"\n"
+    at = rng.randrange(len(text))
+    kind = rng.choice(["change", "drop", "double", "insert", "swap lines", "double line", "drop line", "cut"])
+    if kind == "change":
+        return text[:at] + bytes([rng.choice(b"0123456789,\n aPU!&tx<=>\r\x00\xff")]) + text[at + 1:]
+    if kind == "drop":
+        return text[:at] + text[at + 1:]
+    if kind == "double":
+        return text[:at] + text[at:at + 1] + text[at:]
+    if kind == "insert":
+        return text[:at] + bytes([rng.choice(b"0123456789,\n aPU!&tx")]) + text[at:]
+    if kind == "cut":
+        return text[:at]
+    lines = text.splitlines(keepends=True)
+    a, b = rng.randrange(len(lines)), rng.randrange(len(lines))
+    if kind == "swap lines":
+        lines[a], lines[b] = lines[b], lines[a]
+    elif kind == "double line":
+        lines.insert(a, lines[b])
+    else:
+        del lines[a]
+    return b"".join(lines)
+
+
+def damaged_job(rng):
+    job = list(random_job(rng))
+    for _ in range(rng.choice([1, 1, 2])):
+        which = rng.randrange(3)
+        job[which] = damaged(rng, job[which])
+    return tuple(job)
