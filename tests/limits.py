@@ -49,15 +49,20 @@ def load(rate, hours):
     return moves_text([(0, 1, rate)]), SMALL_LABELS, b"P < 1 U %d up dead\n" % hours
 
 
-def formula_bytes(count):
-    """A formula of so many bytes: too deep, but read."""
-    return small(b"! " * ((count - 3) // 2) + (b"up" if count % 2 else b"gun")[:2 + (count + 1) % 2])
+def filled(head, line, count):
+    """A text of exactly so many bytes: a head, then the line again and again, the last one longer by what is left."""
+    lines, rest = divmod(count - len(head), len(line))
+    return head + line * (lines - 1) + line[:-1] + b"0" * rest + b"\n"
 
 
 def label_bytes(count):
-    """A labels text of so many bytes, all lines good but too many states or out of turn."""
-    text = b"state\n" + b"0\n" * ((count - 6) // 2)
-    return SMALL_MOVES, text + b"10\n"[:count - len(text)] if count % 2 else text, b"tt\n"
+    """States out of turn, so 4 while the bytes are within the limit."""
+    return SMALL_MOVES, filled(b"state\n", b"1\n", count), b"tt\n"
+
+
+def move_bytes(count):
+    """Too many moves, so 5 while the bytes are within the limit."""
+    return filled(b"from,to,rate\n", b"0,1,1\n", count), SMALL_LABELS, b"tt\n"
 
 
 def pairs():
@@ -76,7 +81,9 @@ def pairs():
         "threshold": (small(b"P < 1000000000 U 1 up dead"), small(b"P < 1000000001 U 1 up dead")),
         "digits in the formula": (small(b"P < 1000000000 U 1 up dead"), small(b"P < 10000000000 U 1 up dead")),
         "digits in moves": (moves_and(b"0,1,999999999"), moves_and(b"0,1,1000000000")),
-        "formula bytes": (small(b"! " * 254 + b"up"), small(b"! " * 254 + b"gun")),
+        "formula bytes": (small(b"! " * 254 + b"gun"), small(b"! " * 255 + b"up")),
+        "bytes of labels": (label_bytes(61_440), label_bytes(61_441)),
+        "bytes of moves": (move_bytes(61_440), move_bytes(61_441)),
         "no state": ((SMALL_MOVES[:13], b"state\n0\n", b"tt\n"), (SMALL_MOVES[:13], b"state\n", b"tt\n")),
     }
 
