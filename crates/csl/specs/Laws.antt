@@ -20,6 +20,7 @@ pub mod Report
 pub mod Backing
 pub mod SummedEnds
 pub mod Rates
+pub mod Refusal
 pub mod Bench
 pub mod Trial
 pub mod EightHours

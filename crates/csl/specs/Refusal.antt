@@ -79,8 +79,12 @@ unfoldable pub wrongRate : Job → Bool
 wrongRate j = any (λ m. eqb (m .rate) 0 || ltb mostRate (ratesOut (jobMoves j) (m .from))) (jobMoves j)
 
 -- 10: "formula breaks the grammar"
+unfoldable pub isMissing : Option Formula → Bool
+isMissing none = true
+isMissing (some f) = false
+
 unfoldable pub brokenGrammar : Job → Bool
-brokenGrammar j = elim (readFormula (j .formula)) [ none ↦ true | some f ↦ false ]
+brokenGrammar j = isMissing (readFormula (j .formula))
 
 -- 11: "over 64 nodes or 16 deep"
 unfoldable pub largeFormula : Job → Bool
@@ -135,9 +139,9 @@ pub data Outcome : Type 0 where
   refused : ℕ → Outcome
   accepted : Chain → Formula → ℕ → ℕ → Outcome
 
+unfoldable pub outcomeBy : Job → Option ℕ → Outcome
+outcomeBy j (some number) = refused number
+outcomeBy j none = accepted (jobChain j) (jobFormula j) (topRate (jobChain j)) (depthOf (jobChain j) (jobFormula j))
+
 unfoldable pub outcome : Job → Buffers ℕ → Outcome
-outcome j lent =
-    elim (refusal j lent) [
-      | none ↦ accepted (jobChain j) (jobFormula j) (topRate (jobChain j)) (depthOf (jobChain j) (jobFormula j))
-      | some n ↦ refused n
-    ]
+outcome j lent = outcomeBy j (refusal j lent)

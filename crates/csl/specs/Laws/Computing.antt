@@ -12,8 +12,8 @@ use Rattle.csl.specs.Chain.{chainOf, sumTo, greatest, away, exitRate, to
 use Rattle.csl.specs.Phase.{moved, divisor, stepTop, weight, quotient}
 use Rattle.csl.specs.Report.{depthOf, decimalIn, decimal, rowText, rowsText, reportText, refusalText}
 use Rattle.csl.specs.Lent.{rooms, isShort, column, written, filled}
-use Rattle.csl.specs.Refusal.{formulaFrom, outOfBytes, brokenLayout, wrongFirstLine, wrongStates, manyMoves, strangeState, ownState, notRising, wrongRate, brokenGrammar, largeFormula, strangeLabel, wrongBound, highLoad, shortBuffer, textTests, firstOf, textRefusal, refusal, outcome}
+use Rattle.csl.specs.Refusal.{formulaFrom, outOfBytes, brokenLayout, wrongFirstLine, wrongStates, manyMoves, strangeState, ownState, notRising, wrongRate, isMissing, brokenGrammar, largeFormula, strangeLabel, wrongBound, highLoad, shortBuffer, textTests, firstOf, textRefusal, refusal, outcomeBy, outcome}
 
 unfoldable pub computing : Unit {0}
-unfolding same among every any zeroLed isNumber valueFrom ahead parts endedParts noRemnant linesOf isEnded firstLine laterLines fieldsOf isWord isName noRepeat namesOf labelsHead isMark stateLine labelsLayout inTurn statesOf placeOf markOf movesHead moveLine movesLayout fieldValue moveOf movesOf isRising rateIn ratesOut nodes levels labelsPass untilsPass tokensOf andThen comparisonOf onComparison onNumber onWord pair path headOf state readState whole readFormula sumUp chainOf sumTo greatest away exitRate topRate load depth moved divisor stepTop weight quotient depthOf decimalIn decimal rowText rowsText reportText refusalText rooms isShort column written filled formulaFrom outOfBytes brokenLayout wrongFirstLine wrongStates manyMoves strangeState ownState notRising wrongRate brokenGrammar largeFormula strangeLabel wrongBound highLoad shortBuffer textTests firstOf textRefusal refusal outcome headD
+unfolding same among every any zeroLed isNumber valueFrom ahead parts endedParts noRemnant linesOf isEnded firstLine laterLines fieldsOf isWord isName noRepeat namesOf labelsHead isMark stateLine labelsLayout inTurn statesOf placeOf markOf movesHead moveLine movesLayout fieldValue moveOf movesOf isRising rateIn ratesOut nodes levels labelsPass untilsPass tokensOf andThen comparisonOf onComparison onNumber onWord pair path headOf state readState whole readFormula sumUp chainOf sumTo greatest away exitRate topRate load depth moved divisor stepTop weight quotient depthOf decimalIn decimal rowText rowsText reportText refusalText rooms isShort column written filled formulaFrom outOfBytes brokenLayout wrongFirstLine wrongStates manyMoves strangeState ownState notRising wrongRate isMissing brokenGrammar largeFormula strangeLabel wrongBound highLoad shortBuffer textTests firstOf textRefusal refusal outcomeBy outcome headD
 computing = tt
