@@ -1,7 +1,8 @@
 -- The formula text: "One line, at most 512 bytes, tokens set apart by one space." Assumes nothing.
 use Prim.Native.Nat.{ℕ, zero, suc}
+use mathlib.Core.Path.{_≡_}
 use mathlib.Core.Bool.{true, false, cond, _&&_}
-use mathlib.Core.List.{List, [], _∷_}
+use mathlib.Core.List.{List, [], _∷_, _++_}
 use mathlib.Core.Option.{Option, none, some}
 use lib.ListN.{length}
 use lib.Dec.{eqb}
@@ -93,3 +94,15 @@ whole (found f (w ∷ ts)) = none
 unfoldable pub readFormula : Text → Option Formula
 readFormula text =
     cond (isEnded text && eqb (length (linesOf text)) 1) (whole (readState (length (tokensOf text)) (tokensOf text))) none
+
+-- The same grammar once more, as the paper lists it: which tokens spell a formula. `Theorems` shows that the reader finds a formula exactly
+-- where the tokens spell one.
+pub data Spells : Formula → List Text → Type 0 where
+  spells-truth : Spells always (bytes "tt" ∷ [])
+  spells-name : (w : Text) → isWord w ≡ true → same w (bytes "tt") ≡ false → Spells (label w) (w ∷ [])
+  spells-not : {a : Formula} {s : List Text} → Spells a s → Spells (negated a) (bytes "!" ∷ s)
+  spells-both : {a b : Formula} {s t : List Text} → Spells a s → Spells b t → Spells (both a b) (bytes "&" ∷ s ++ t)
+  spells-until : {a b : Formula} {s t : List Text} (sign threshold hours : Text) (r : Comparison)
+      → comparisonOf sign ≡ some r → isNumber formulaDigits threshold ≡ true → isNumber formulaDigits hours ≡ true
+      → Spells a s → Spells b t
+      → Spells (until r (valueOf threshold) (valueOf hours) a b) (bytes "P" ∷ sign ∷ threshold ∷ bytes "U" ∷ hours ∷ s ++ t)

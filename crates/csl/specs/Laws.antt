@@ -19,6 +19,7 @@ pub mod Throughout
 pub mod Report
 pub mod Backing
 pub mod SummedEnds
+pub mod Grammar
 pub mod Rates
 pub mod Refusal
 pub mod Bench

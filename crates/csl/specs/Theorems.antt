@@ -3,10 +3,15 @@
 use mathlib.Core.Path.{refl}
 use mathlib.Core.Bool.{Bool}
 use Prim.Native.Nat.{ℕ, suc, _+_, _*_, _≤_, _<_}
+use mathlib.Core.List.{List}
+use mathlib.Core.Option.{some}
+use lib.ListN.{length}
 use native.Mathlib.Omega.{arith}
+use Rattle.csl.specs.Text.{Text}
 use Rattle.csl.specs.Limits.{widthFactor, spareSteps}
 use Rattle.csl.specs.Formula.{Formula, until, Comparison, AtMost, AtLeast, More}
 use Rattle.csl.specs.Fraction.{frac, IsFraction, Below, times, sumUp, billionths}
+use Rattle.csl.specs.Grammar.{readState, whole, Spells}
 use Rattle.csl.specs.Chain.{Chain, load, depth}
 use Rattle.csl.specs.Phase.{untilPhase, divisor, stepTop, weight, untilQuotient}
 use Rattle.csl.specs.Verdicts.{Verdict, Yes, Reading, asNo}
@@ -25,6 +30,7 @@ use Rattle.csl.specs.Laws.Enclosure.{Encloses, encloses}
 use Rattle.csl.specs.Laws.Settled.{verdicts-obey}
 use Rattle.csl.specs.Laws.Throughout.{throughout, Together, backings-agree}
 use Rattle.csl.specs.Laws.Report.{report-agrees}
+use Rattle.csl.specs.Laws.Grammar.{read-if-spelled, spelled-if-read}
 use Rattle.csl.specs.Laws.Bench as bench
 use Rattle.csl.specs.Laws.Trial as trial
 use Rattle.csl.specs.Laws.EightHours as hours
@@ -132,3 +138,11 @@ pub undecided-job-has-a-report : HasReport (small "P >= 5 U 8 up P <= 3992010 U 
     (until AtLeast 5 8 up (until AtMost 3992010 8 up dead)) 500 42 (λ s. 0) examples.openUpper examples.openVerdict
 unfolding computing
 undecided-job-has-a-report = record { accepts = refl; reported = examples.undecided }
+
+-- The reader of formulas is the grammar as document 01 lists it: tokens are read as a formula exactly where they spell it, so a text has
+-- at most one reading.
+pub formulas-are-read-where-they-are-spelled : (ts : List Text) (f : Formula) → Spells f ts → whole (readState (length ts) ts) ≡ some f
+formulas-are-read-where-they-are-spelled ts f h = read-if-spelled ts f h
+
+pub formulas-are-spelled-where-they-are-read : (ts : List Text) (f : Formula) → whole (readState (length ts) ts) ≡ some f → Spells f ts
+formulas-are-spelled-where-they-are-read ts f h = spelled-if-read ts f h

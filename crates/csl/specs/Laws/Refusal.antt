@@ -4,11 +4,10 @@ use mathlib.Core.Bool.{Bool, true, false, cond}
 use mathlib.Core.List.{List, [], _∷_, _++_}
 use mathlib.Core.Option.{Option, none, some, Option·some-ne-none, Option·none-ne-some}
 use Prim.Native.Nat.{ℕ}
-use native.Mathlib.Omega.{arith}
 use Rattle.csl.specs.Chain.{topRate}
 use Rattle.csl.specs.Report.{depthOf}
 use Rattle.csl.specs.Lent.{Buffers}
-use Rattle.csl.specs.Refusal.{Job, jobChain, jobFormula, outOfBytes, brokenLayout, wrongFirstLine, wrongStates, manyMoves, strangeState, ownState, notRising, wrongRate, brokenGrammar, largeFormula, strangeLabel, wrongBound, highLoad, shortBuffer, Test, test, textTests, firstOf, textRefusal, refusal, Outcome, refused, accepted, outcomeBy, outcome}
+use Rattle.csl.specs.Refusal.{Job, jobChain, jobFormula, outOfBytes, brokenLayout, wrongFirstLine, wrongStates, manyMoves, strangeState, ownState, notRising, wrongRate, brokenGrammar, largeFormula, strangeLabel, wrongBound, highLoad, shortBuffer, Test, test, textTests, firstOf, textRefusal, refusal, refused, accepted, outcomeBy, outcome}
 
 -- none of the tests holds
 unfoldable pub NoneHolds : List Test → Type 0

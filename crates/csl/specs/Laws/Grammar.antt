@@ -1,0 +1,335 @@
+-- The reader of formulas against the grammar as document 01 lists it: it finds a formula exactly where the tokens before it spell one, so
+-- each text has at most one reading. Assumes nothing.
+use mathlib.Core.Path.{_≡_, refl, ap, sym, subst, _∙_}
+use mathlib.Core.Bool.{Bool, true, false, cond, _&&_, false≢true}
+use mathlib.Core.List.{List, [], _∷_, _++_}
+use mathlib.Core.Option.{Option, none, some, Option·none-ne-some, Option·some-injective}
+use Prim.Native.Nat.{ℕ, zero, suc, _≤_}
+use native.Mathlib.Omega.{arith}
+use lib.ListN.{length, length-append}
+use mathlib.Core.List.{append-assoc}
+use lib.Dec.{eqb}
+use borrow.Author.Tests.{eqb-true}
+use Rattle.csl.specs.Text.{Text, bytes, same}
+use Rattle.csl.specs.Limits.{formulaDigits}
+use Rattle.csl.specs.Number.{isNumber, valueOf}
+use Rattle.csl.specs.Labels.{isWord}
+use Rattle.csl.specs.Formula.{Formula, always, label, negated, both, until, Comparison}
+use Rattle.csl.specs.Laws.Computing.{computing}
+use Rattle.csl.specs.Grammar.{Found, nothing, found, Reader, andThen, comparisonOf, onComparison, onNumber, onWord, pair, path, Head, truth, name, bang, ampersand, chance, other, headOf, state, readState, whole, Spells, spells-truth, spells-name, spells-not, spells-both, spells-until}
+
+-- what is found has been found before
+pub record Then (x : Found) (next : Formula → List Text → Found) (f : Formula) (rest : List Text) : Type 0 where
+  pub first : Formula
+  pub more : List Text
+  pub before : x ≡ found first more
+  pub after : next first more ≡ found f rest
+
+nothing-found : {A : Type 0} (f : Formula) (rest : List Text) → nothing ≡ found f rest → A
+nothing-found f rest h = let z : _≡_ {A = ℕ} 0 1 = cc in absurd (omega arith)
+
+then-found : (x : Found) (next : Formula → List Text → Found) (f : Formula) (rest : List Text) → andThen x next ≡ found f rest → Then x next f rest
+unfolding andThen
+then-found nothing next f rest h = nothing-found f rest h
+then-found (found a more) next f rest h = record { first = a; more = more; before = refl; after = h }
+
+-- what stood before it, token by token
+pub record NumberThen (ts : List Text) (next : ℕ → List Text → Found) (f : Formula) (rest : List Text) : Type 0 where
+  pub token : Text
+  pub more : List Text
+  pub tokens : ts ≡ token ∷ more
+  pub is : isNumber formulaDigits token ≡ true
+  pub after : next (valueOf token) more ≡ found f rest
+
+number-by : (x : Bool) (y : Found) (f : Formula) (rest : List Text) → (elim x [ true ↦ y | false ↦ nothing ]) ≡ found f rest → (x ≡ true) × (y ≡ found f rest)
+number-by true y f rest h = (refl, h)
+number-by false y f rest h = nothing-found f rest h
+
+number-found : (ts : List Text) (next : ℕ → List Text → Found) (f : Formula) (rest : List Text) → onNumber ts next ≡ found f rest
+    → NumberThen ts next f rest
+unfolding onNumber
+number-found [] next f rest h = nothing-found f rest h
+number-found (w ∷ ts) next f rest h =
+    let p = number-by (isNumber formulaDigits w) (next (valueOf w) ts) f rest h in
+    record { token = w; more = ts; tokens = refl; is = p .0; after = p .1 }
+
+-- bytes that are the same are equal
+same-cons : (a b : ℕ) (s t : Text) → a ≡ b → s ≡ t → _≡_ {A = Text} (a ∷ s) (b ∷ t)
+same-cons a b s t h k = rw (h, k) refl
+
+both-true : (x y : Bool) → (x && y) ≡ true → (x ≡ true) × (y ≡ true)
+both-true true y h = (refl, h)
+both-true false y h = absurd (false≢true h)
+
+pub same-true : (s t : Text) → same s t ≡ true → s ≡ t
+unfolding same
+same-true [] [] h = refl
+same-true [] (b ∷ t) h = absurd (false≢true h)
+same-true (a ∷ s) [] h = absurd (false≢true h)
+same-true (a ∷ s) (b ∷ t) h =
+    let p : (eqb a b ≡ true) × (same s t ≡ true) = both-true (eqb a b) (same s t) h in
+    same-cons a b s t (eqb-true a b (p .0)) (same-true s t (p .1))
+
+pub record SignThen (ts : List Text) (next : Comparison → List Text → Found) (f : Formula) (rest : List Text) : Type 0 where
+  pub token : Text
+  pub sign : Comparison
+  pub more : List Text
+  pub tokens : ts ≡ token ∷ more
+  pub is : comparisonOf token ≡ some sign
+  pub after : next sign more ≡ found f rest
+
+sign-found : (ts : List Text) (next : Comparison → List Text → Found) (f : Formula) (rest : List Text) → onComparison ts next ≡ found f rest
+    → SignThen ts next f rest
+unfolding onComparison
+sign-found [] next f rest h = nothing-found f rest h
+sign-found (w ∷ ts) next f rest h = go (comparisonOf w) refl h
+  where
+    go : (o : Option Comparison) → comparisonOf w ≡ o → (elim o [ none ↦ nothing | some r ↦ next r ts ]) ≡ found f rest
+        → SignThen (w ∷ ts) next f rest
+    go none e k = nothing-found f rest k
+    go (some r) e k = record { token = w; sign = r; more = ts; tokens = refl; is = e; after = k }
+
+pub record WordThen (x : Text) (ts : List Text) (next : List Text → Found) (f : Formula) (rest : List Text) : Type 0 where
+  pub more : List Text
+  pub tokens : ts ≡ x ∷ more
+  pub after : next more ≡ found f rest
+
+word-found : (x : Text) (ts : List Text) (next : List Text → Found) (f : Formula) (rest : List Text) → onWord x ts next ≡ found f rest
+    → WordThen x ts next f rest
+unfolding onWord
+word-found x [] next f rest h = nothing-found f rest h
+word-found x (w ∷ ts) next f rest h =
+    let p = number-by (same w x) (next ts) f rest h in
+    record { more = ts; tokens = ap (λ (y : Text). y ∷ ts) (same-true w x (p .0)); after = p .1 }
+
+-- the token that a head stands for
+unfoldable HeadIs : Text → Head → Type 0
+HeadIs w truth = w ≡ bytes "tt"
+HeadIs w name = (isWord w ≡ true) × (same w (bytes "tt") ≡ false)
+HeadIs w bang = w ≡ bytes "!"
+HeadIs w ampersand = w ≡ bytes "&"
+HeadIs w chance = w ≡ bytes "P"
+HeadIs w other = Unit {0}
+
+head-is : (w : Text) → HeadIs w (headOf w)
+unfolding headOf HeadIs
+head-is w = go (same w (bytes "tt")) (isWord w) (same w (bytes "!")) (same w (bytes "&")) (same w (bytes "P")) refl refl refl refl refl
+  where
+    go : (a b c d e : Bool) → same w (bytes "tt") ≡ a → isWord w ≡ b → same w (bytes "!") ≡ c → same w (bytes "&") ≡ d → same w (bytes "P") ≡ e
+        → HeadIs w (cond a truth (cond b name (cond c bang (cond d ampersand (cond e chance other)))))
+    go true b c d e h i j k l = same-true _ _ h
+    go false true c d e h i j k l = (i, h)
+    go false false true d e h i j k l = same-true _ _ j
+    go false false false true e h i j k l = same-true _ _ k
+    go false false false false true h i j k l = same-true _ _ l
+    go false false false false false h i j k l = tt
+
+-- tokens that spell a formula, and what stands after them
+pub record Spelled (f : Formula) (ts rest : List Text) : Type 0 where
+  pub tokens : List Text
+  pub spells : Spells f tokens
+  pub split : ts ≡ tokens ++ rest
+
+-- a reader that finds only what is spelled
+abbrev Sound : Reader → Type 0
+Sound read = (ts : List Text) (f : Formula) (rest : List Text) → read ts ≡ found f rest → Spelled f ts rest
+
+found-formula : (a b : Formula) (s t : List Text) → found a s ≡ found b t → a ≡ b
+found-formula a b s t h = cc
+
+found-rest : (a b : Formula) (s t : List Text) → found a s ≡ found b t → s ≡ t
+found-rest a b s t h = cc
+
+pub record PairSpelled (make : Formula → Formula → Formula) (f : Formula) (ts rest : List Text) : Type 0 where
+  pub a : Formula
+  pub b : Formula
+  pub s : List Text
+  pub t : List Text
+  pub first : Spells a s
+  pub second : Spells b t
+  pub is : make a b ≡ f
+  pub split : ts ≡ s ++ t ++ rest
+
+pair-sound : (read : Reader) → Sound read → (make : Formula → Formula → Formula) (ts : List Text) (f : Formula) (rest : List Text)
+    → pair read make ts ≡ found f rest → PairSpelled make f ts rest
+unfolding pair
+pair-sound read sound make ts f rest h =
+    let p = then-found (read ts) _ f rest h in
+    let q = then-found (read (p .more)) _ f rest (p .after) in
+    let x = sound ts (p .first) (p .more) (p .before) in
+    let y = sound (p .more) (q .first) (q .more) (q .before) in
+    record {
+      a = p .first;
+      b = q .first;
+      s = x .tokens;
+      t = y .tokens;
+      first = x .spells;
+      second = y .spells;
+      is = found-formula _ _ _ _ (q .after);
+      split = x .split ∙ ap (λ (l : List Text). x .tokens ++ l) (y .split ∙ ap (λ (l : List Text). y .tokens ++ l) (found-rest _ _ _ _ (q .after)))
+          ∙ sym (append-assoc (x .tokens) (y .tokens) rest);
+    }
+
+-- what stands after the tokens of `P` and `U`
+until-sound : (read : Reader) → Sound read → (sign threshold : Text) (r : Comparison) (ts : List Text) (f : Formula) (rest : List Text)
+    → comparisonOf sign ≡ some r → isNumber formulaDigits threshold ≡ true → path read r (valueOf threshold) ts ≡ found f rest
+    → Spelled f (bytes "P" ∷ sign ∷ threshold ∷ ts) rest
+unfolding path
+until-sound read sound sign threshold r ts f rest e i h =
+    let u = word-found (bytes "U") ts _ f rest h in
+    let n = number-found (u .more) _ f rest (u .after) in
+    let p = pair-sound read sound (until r (valueOf threshold) (valueOf (n .token))) (n .more) f rest (n .after) in
+    record {
+      tokens = bytes "P" ∷ sign ∷ threshold ∷ bytes "U" ∷ n .token ∷ p .s ++ p .t;
+      spells = subst (λ x. Spells x (bytes "P" ∷ sign ∷ threshold ∷ bytes "U" ∷ n .token ∷ p .s ++ p .t)) (p .is)
+          (spells-until sign threshold (n .token) r e i (n .is) (p .first) (p .second));
+      split = ap (λ (l : List Text). bytes "P" ∷ sign ∷ threshold ∷ l)
+          (u .tokens ∙ ap (λ (l : List Text). bytes "U" ∷ l) (n .tokens ∙ ap (λ (l : List Text). n .token ∷ l) (p .split)));
+    }
+
+state-sound : (read : Reader) → Sound read → (w : Text) (head : Head) → HeadIs w head → (ts : List Text) (f : Formula) (rest : List Text)
+    → state read w head ts ≡ found f rest → Spelled f (w ∷ ts) rest
+unfolding state HeadIs
+state-sound read sound w truth i ts f rest h =
+    record {
+      tokens = bytes "tt" ∷ [];
+      spells = subst (λ x. Spells x (bytes "tt" ∷ [])) (found-formula _ _ _ _ h) spells-truth;
+      split = ap (λ (x : Text). x ∷ ts) i ∙ ap (λ (l : List Text). bytes "tt" ∷ l) (found-rest _ _ _ _ h);
+    }
+state-sound read sound w name i ts f rest h =
+    record {
+      tokens = w ∷ [];
+      spells = subst (λ x. Spells x (w ∷ [])) (found-formula _ _ _ _ h) (spells-name w (i .0) (i .1));
+      split = ap (λ (l : List Text). w ∷ l) (found-rest _ _ _ _ h);
+    }
+state-sound read sound w bang i ts f rest h =
+    let p = then-found (read ts) _ f rest h in
+    let x = sound ts (p .first) (p .more) (p .before) in
+    record {
+      tokens = bytes "!" ∷ x .tokens;
+      spells = subst (λ y. Spells y (bytes "!" ∷ x .tokens)) (found-formula _ _ _ _ (p .after)) (spells-not (x .spells));
+      split = ap (λ (y : Text). y ∷ ts) i
+          ∙ ap (λ (l : List Text). bytes "!" ∷ l) (x .split ∙ ap (λ (l : List Text). x .tokens ++ l) (found-rest _ _ _ _ (p .after)));
+    }
+state-sound read sound w ampersand i ts f rest h =
+    let p = pair-sound read sound both ts f rest h in
+    record {
+      tokens = bytes "&" ∷ p .s ++ p .t;
+      spells = subst (λ y. Spells y (bytes "&" ∷ p .s ++ p .t)) (p .is) (spells-both (p .first) (p .second));
+      split = ap (λ (y : Text). y ∷ ts) i ∙ ap (λ (l : List Text). bytes "&" ∷ l) (p .split);
+    }
+state-sound read sound w chance i ts f rest h =
+    let c = sign-found ts _ f rest h in
+    let n = number-found (c .more) _ f rest (c .after) in
+    let x = until-sound read sound (c .token) (n .token) (c .sign) (n .more) f rest (c .is) (n .is) (n .after) in
+    record {
+      tokens = x .tokens;
+      spells = x .spells;
+      split = ap (λ (y : Text). y ∷ ts) i
+          ∙ ap (λ (l : List Text). bytes "P" ∷ l) (c .tokens ∙ ap (λ (l : List Text). c .token ∷ l) (n .tokens)) ∙ x .split;
+    }
+state-sound read sound w other i ts f rest h = nothing-found f rest h
+
+-- the reader finds only what the tokens spell
+pub read-sound : (k : ℕ) → Sound (readState k)
+unfolding readState
+read-sound zero ts f rest h = nothing-found f rest h
+read-sound (suc k) [] f rest h = nothing-found f rest h
+read-sound (suc k) (w ∷ ts) f rest h = state-sound (readState k) (read-sound k) w (headOf w) (head-is w) ts f rest h
+
+-- and it finds all that they spell
+abbrev Complete : Reader → Formula → List Text → Type 0
+Complete read f s = (rest : List Text) → read (s ++ rest) ≡ found f rest
+
+pair-complete : (read : Reader) (make : Formula → Formula → Formula) (a b : Formula) (s t : List Text)
+    → Complete read a s → Complete read b t → (rest : List Text) → pair read make (s ++ t ++ rest) ≡ found (make a b) rest
+unfolding pair andThen
+pair-complete read make a b s t h k rest = rw (append-assoc s t rest, h (t ++ rest), k rest) refl
+
+-- the tokens of `P`, in order
+number-token : (w : Text) (ts : List Text) (next : ℕ → List Text → Found) → isNumber formulaDigits w ≡ true → onNumber (w ∷ ts) next ≡ next (valueOf w) ts
+unfolding onNumber
+number-token w ts next i = rw (i, onNumber) refl
+
+sign-token : (w : Text) (ts : List Text) (next : Comparison → List Text → Found) (r : Comparison) → comparisonOf w ≡ some r
+    → onComparison (w ∷ ts) next ≡ next r ts
+unfolding onComparison
+sign-token w ts next r e = rw (e, onComparison) refl
+
+u-token : (ts : List Text) (next : List Text → Found) → onWord (bytes "U") (bytes "U" ∷ ts) next ≡ next ts
+unfolding onWord same
+u-token ts next = refl
+
+until-complete : (read : Reader) (a b : Formula) (s t : List Text) (sign threshold hours : Text) (r : Comparison)
+    → comparisonOf sign ≡ some r → isNumber formulaDigits threshold ≡ true → isNumber formulaDigits hours ≡ true
+    → Complete read a s → Complete read b t → (rest : List Text)
+    → state read (bytes "P") chance (sign ∷ threshold ∷ bytes "U" ∷ hours ∷ (s ++ t ++ rest))
+    ≡ found (until r (valueOf threshold) (valueOf hours) a b) rest
+unfolding state path
+until-complete read a b s t sign threshold hours r e i j h k rest =
+    sign-token sign _ _ r e ∙ number-token threshold _ _ i ∙ u-token _ _ ∙ number-token hours _ _ j
+    ∙ pair-complete read (until r (valueOf threshold) (valueOf hours)) a b s t h k rest
+
+not-complete : (read : Reader) (a : Formula) (s rest : List Text) → Complete read a s → state read (bytes "!") bang (s ++ rest) ≡ found (negated a) rest
+unfolding state andThen
+not-complete read a s rest h = rw (h rest) refl
+
+both-complete : (read : Reader) (a b : Formula) (s t rest : List Text) → Complete read a s → Complete read b t
+    → state read (bytes "&") ampersand (s ++ t ++ rest) ≡ found (both a b) rest
+unfolding state
+both-complete read a b s t rest h k = pair-complete read both a b s t h k rest
+
+name-complete : (read : Reader) (w : Text) (rest : List Text) → isWord w ≡ true → same w (bytes "tt") ≡ false
+    → state read w (headOf w) rest ≡ found (label w) rest
+unfolding state headOf
+name-complete read w rest h i = rw (i, h) refl
+
+fixed-heads : (headOf (bytes "tt") ≡ truth) × (headOf (bytes "!") ≡ bang) × (headOf (bytes "&") ≡ ampersand) × (headOf (bytes "P") ≡ chance)
+unfolding computing
+fixed-heads = (refl, refl, refl, refl)
+
+truth-complete : (read : Reader) (rest : List Text) → state read (bytes "tt") truth rest ≡ found always rest
+unfolding state
+truth-complete read rest = refl
+
+pub read-complete : {f : Formula} {s : List Text} → Spells f s → (k : ℕ) → length s ≤ k → Complete (readState k) f s
+unfolding readState
+read-complete spells-truth zero l rest = absurd (omega arith)
+read-complete spells-truth (suc k) l rest = rw (fixed-heads .0) (truth-complete (readState k) rest)
+read-complete (spells-name w h i) zero l rest = absurd (omega arith)
+read-complete (spells-name w h i) (suc k) l rest = name-complete (readState k) w rest h i
+read-complete (spells-not p) zero l rest = absurd (omega arith)
+read-complete (spells-not {a = a} {s = s} p) (suc k) l rest =
+    rw (fixed-heads .1) (not-complete (readState k) a s rest (λ x. read-complete p k (omega arith) x))
+read-complete (spells-both p q) zero l rest = absurd (omega arith)
+read-complete (spells-both {a = a} {b = b} {s = s} {t = t} p q) (suc k) l rest =
+    rw (fixed-heads .2)
+    (both-complete (readState k) a b s t rest (λ x. read-complete p k (omega (arith, length-append s t)) x)
+    (λ x. read-complete q k (omega (arith, length-append s t)) x))
+read-complete (spells-until sign threshold hours r e i j p q) zero l rest = absurd (omega arith)
+read-complete (spells-until {a = a} {b = b} {s = s} {t = t} sign threshold hours r e i j p q) (suc k) l rest =
+    rw (fixed-heads .3)
+    (until-complete (readState k) a b s t sign threshold hours r e i j (λ x. read-complete p k (omega (arith, length-append s t)) x)
+    (λ x. read-complete q k (omega (arith, length-append s t)) x) rest)
+
+-- so tokens are read as a formula exactly where they spell it, all of them
+whole-found : (x : Found) (f : Formula) → whole x ≡ some f → x ≡ found f []
+unfolding whole
+whole-found nothing f h = absurd (Option·none-ne-some f h)
+whole-found (found a []) f h = ap (λ (y : Formula). found y []) (Option·some-injective a f h)
+whole-found (found a (w ∷ ts)) f h = absurd (Option·none-ne-some f h)
+
+append-nil : (l : List Text) → l ++ [] ≡ l
+append-nil [] = refl
+append-nil (x ∷ l) = ap (λ (y : List Text). x ∷ y) (append-nil l)
+
+pub read-if-spelled : (ts : List Text) (f : Formula) → Spells f ts → whole (readState (length ts) ts) ≡ some f
+unfolding whole
+read-if-spelled ts f h =
+    let e : readState (length ts) (ts ++ []) ≡ found f [] = read-complete h (length ts) (omega arith) [] in
+    rw (rw (append-nil ts) at e) refl
+
+pub spelled-if-read : (ts : List Text) (f : Formula) → whole (readState (length ts) ts) ≡ some f → Spells f ts
+spelled-if-read ts f h =
+    let x = read-sound (length ts) ts f [] (whole-found _ f h) in
+    rw (x .split ∙ append-nil (x .tokens)) (x .spells)
