@@ -1,0 +1,3 @@
+pub mod MulDivLaw
+pub mod NewLaw
+pub mod QuotientLaw

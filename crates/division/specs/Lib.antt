@@ -1,0 +1,2 @@
+-- What the functions of `division` ask and promise.
+pub mod Contract

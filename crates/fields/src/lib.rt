@@ -1,0 +1,61 @@
+// The fields of a line, at the start of what is left of a sheet text: a number, and marks.
+use texts::Num;
+ghost use mathlib.Core.Path.{_≡_};
+ghost use Prim.Native.Nat.{_≤_, _*_};
+ghost use mathlib.Core.Bool.{cond};
+ghost use lib.ListN.{length};
+ghost use Rattle.fields.specs.Field.{fieldAt, FieldFits};
+ghost use Rattle.fields.specs.Marks.{markAt, marksIn};
+
+// The number of a sheet that stands at the start of t and is ended by the byte `end`; the bytes count it in.
+pub fn field(t: &[u8], end: u8) -> Num
+    ensures { λ r. ⌜ r ≡ fieldAt end (now (t .entry)) ⌝ }
+    ensures within { λ r. ⌜ FieldFits (length (now (t .entry))) r ⌝ }
+{
+    match texts::number(t, 9) {
+        Num::Bad => Num::Bad,
+        Num::Value(v, n) => {
+            if t.len() <= n {
+                return Num::Bad;
+            }
+            if t[n] == end {
+                Num::Value(v, n + 1)
+            } else {
+                Num::Bad
+            }
+        }
+    }
+}
+
+// Whether a 0 or 1 stands at the start of t, and the byte `end` after it.
+fn mark(t: &[u8], end: u8) -> bool
+    ensures { λ r. ⌜ r ≡ markAt end (now (t .entry)) ⌝ }
+{
+    if t.len() < 2 {
+        return false;
+    }
+    if t[1] != end {
+        return false;
+    }
+    t[0] == 48 || t[0] == 49
+}
+
+// The bytes of `count` marks and their line feed at the start of s; 0 where the line has others.
+pub fn marks(s: &[u8], count: usize) -> usize
+    requires { ⌜ 1 ≤ count ⌝ }
+    ensures { λ r. ⌜ r ≡ cond (marksIn count (now (s .entry))) (2 * count) 0 ⌝ }
+    ensures within { λ r. ⌜ r ≤ length (now (s .entry)) ⌝ }
+{
+    let mut t = s;
+    let mut used: usize = 0;
+    let mut left = count;
+    while 1 < left {
+        if !mark(t, 44) {
+            return 0;
+        }
+        left -= 1;
+        used += 2;
+        t = &t[2..];
+    }
+    if mark(t, 10) { used + 2 } else { 0 }
+}

@@ -1,0 +1,2 @@
+-- Moves as words.
+pub mod Packed

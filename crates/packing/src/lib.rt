@@ -1,0 +1,31 @@
+// A move in one word of 64 bits: the state that it leaves, the state that it enters, and its rate.
+ghost use mathlib.Core.Path.{_≡_};
+ghost use Prim.Native.Nat.{_<_};
+ghost use Rattle.packing.specs.Packed.{packed, wordFrom, wordTo, wordRate};
+
+pub fn pack(from: u64, to: u64, rate: u64) -> u64
+    requires { ⌜ (from < 10000000000) × (to < 10000000000) × (rate < 10000000000) ⌝ }
+    ensures { λ r. ⌜ r ≡ packed from to rate ⌝ }
+{
+    rate * 262144 + from * 512 + to
+}
+
+pub fn from_of(word: u64) -> usize
+    ensures { λ r. ⌜ r ≡ wordFrom word ⌝ }
+    ensures within { λ r. ⌜ r < 512 ⌝ }
+{
+    (word / 512 % 512) as usize
+}
+
+pub fn to_of(word: u64) -> usize
+    ensures { λ r. ⌜ r ≡ wordTo word ⌝ }
+    ensures within { λ r. ⌜ r < 512 ⌝ }
+{
+    (word % 512) as usize
+}
+
+pub fn rate_of(word: u64) -> u64
+    ensures { λ r. ⌜ r ≡ wordRate word ⌝ }
+{
+    word / 262144
+}

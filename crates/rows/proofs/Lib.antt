@@ -1,0 +1,4 @@
+pub mod ClearLaw
+pub mod TallyLaw
+pub mod CloseLaw
+pub mod PrepareLaw

@@ -1,0 +1,119 @@
+-- How the parts, lines and fields of a text are cut off its start, by `spanOf`. Assumes nothing.
+use mathlib.Core.Path.{_≡_, refl, sym, _∙_, ap}
+use Prim.Native.Nat.{ℕ, zero, suc, _+_, _-_, _≤_, _<_}
+use native.Mathlib.Omega.{arith}
+use native.Mathlib.Numerals.{add-one}
+use mathlib.Core.Bool.{Bool, true, false, cond}
+use mathlib.Core.List.{List, [], _∷_, headD, tail}
+use lib.ListN.{length, take, drop, getD, drop-of-length-le, length-drop}
+use lib.Seq.{drop-cons, take-all}
+use lib.Dec.{eqb, eqb·suc-zero}
+use borrow.Author.Tests.{eq-eqb, ne-eqb, eqb-true, eqb-false}
+use Rattle.csl.specs.Text.{Text}
+use Rattle.csl.specs.Line.{lineFeed, comma, ahead, parts, endedParts, noRemnant, linesOf, isEnded, firstLine, laterLines, fieldsOf}
+use Rattle.texts.specs.Span.{spanOf}
+
+-- what the part `&s[a..]` holds
+pub rest-is : (s : Text) (a : ℕ) → take (length s - a) (drop a s) ≡ drop a s
+rest-is s a = take-all (length s - a) (drop a s) (omega (arith, length-drop a s))
+
+pub span-within : (mark : ℕ) (s : Text) → spanOf mark s ≤ length s
+unfolding spanOf
+span-within mark [] = omega arith
+span-within mark (b ∷ s) = go (eqb b mark) (span-within mark s)
+  where
+    go : (p : Bool) → spanOf mark s ≤ length s → cond p 0 (suc (spanOf mark s)) ≤ suc (length s)
+    go true ih = omega arith
+    go false ih = omega arith
+
+-- at the span stands the mark
+pub span-mark : (mark : ℕ) (s : Text) → spanOf mark s < length s → getD s (spanOf mark s) 0 ≡ mark
+unfolding spanOf
+span-mark mark [] h = absurd (omega arith)
+span-mark mark (b ∷ s) h = go (eqb b mark) refl h (span-mark mark s)
+  where
+    go : (p : Bool) → eqb b mark ≡ p → cond p 0 (suc (spanOf mark s)) < suc (length s)
+        → (spanOf mark s < length s → getD s (spanOf mark s) 0 ≡ mark) → getD (b ∷ s) (cond p 0 (suc (spanOf mark s))) 0 ≡ mark
+    go true e l ih = eqb-true _ _ e
+    go false e l ih = ih (omega arith)
+
+-- the parts behind the first, from its mark on
+abbrev after : ℕ → Text → List Text
+after mark [] = []
+after mark (b ∷ t) = parts mark t
+
+first-part : (mark : ℕ) (s : Text) → parts mark s ≡ take (spanOf mark s) s ∷ after mark (drop (spanOf mark s) s)
+unfolding parts spanOf ahead
+first-part mark [] = refl
+first-part mark (b ∷ s) = go (eqb b mark) (first-part mark s)
+  where
+    go : (p : Bool) → parts mark s ≡ take (spanOf mark s) s ∷ after mark (drop (spanOf mark s) s)
+        → cond p ([] ∷ parts mark s) (ahead b (parts mark s))
+        ≡ take (cond p 0 (suc (spanOf mark s))) (b ∷ s) ∷ after mark (drop (cond p 0 (suc (spanOf mark s))) (b ∷ s))
+    go true ih = refl
+    go false ih = rw ih
+
+-- where the mark stands, and where it does not
+pub parts-cut : (mark : ℕ) (s : Text) → spanOf mark s < length s
+    → parts mark s ≡ take (spanOf mark s) s ∷ parts mark (drop (spanOf mark s + 1) s)
+parts-cut mark s h = first-part mark s ∙ rw (add-one, drop-cons s (spanOf mark s) 0 h)
+
+pub parts-whole : (mark : ℕ) (s : Text) → length s ≤ spanOf mark s → parts mark s ≡ s ∷ []
+parts-whole mark s h = first-part mark s ∙ rw (drop-of-length-le s h, take-all (spanOf mark s) s h)
+
+-- a part more in front
+ended-more : (p : Text) (mark : ℕ) (s : Text) → endedParts (p ∷ parts mark s) ≡ p ∷ endedParts (parts mark s)
+unfolding endedParts
+ended-more p mark s = rw first-part
+
+remnant-more : (p : Text) (mark : ℕ) (s : Text) → noRemnant (p ∷ parts mark s) ≡ noRemnant (parts mark s)
+unfolding noRemnant
+remnant-more [] mark s = rw first-part
+remnant-more (b ∷ p) mark s = rw first-part
+
+pub lines-cut : (t : Text) → spanOf lineFeed t < length t → linesOf t ≡ take (spanOf lineFeed t) t ∷ linesOf (drop (spanOf lineFeed t + 1) t)
+unfolding linesOf
+lines-cut t h = rw (parts-cut lineFeed t h) (ended-more (take (spanOf lineFeed t) t) lineFeed (drop (spanOf lineFeed t + 1) t))
+
+pub ended-cut : (t : Text) → spanOf lineFeed t < length t → isEnded t ≡ isEnded (drop (spanOf lineFeed t + 1) t)
+unfolding isEnded
+ended-cut t h = rw (parts-cut lineFeed t h) (remnant-more (take (spanOf lineFeed t) t) lineFeed (drop (spanOf lineFeed t + 1) t))
+
+-- no line feed is left
+pub lines-none : (t : Text) → length t ≤ spanOf lineFeed t → linesOf t ≡ []
+unfolding linesOf endedParts
+lines-none t h = rw (parts-whole lineFeed t h)
+
+pub ended-none : (t : Text) → length t ≤ spanOf lineFeed t → isEnded t ≡ eqb (length t) 0
+unfolding isEnded noRemnant
+ended-none t h = rw (parts-whole lineFeed t h) (alone t)
+  where
+    alone : (s : Text) → noRemnant (s ∷ []) ≡ eqb (length s) 0
+    alone [] = refl
+    alone (b ∷ s) = sym (eqb·suc-zero (length s))
+
+-- the first line, and the lines after it
+pub first-cut : (t : Text) → spanOf lineFeed t < length t → firstLine t ≡ take (spanOf lineFeed t) t
+unfolding firstLine headD
+first-cut t h = rw (lines-cut t h)
+
+pub later-cut : (t : Text) → spanOf lineFeed t < length t → laterLines t ≡ linesOf (drop (spanOf lineFeed t + 1) t)
+unfolding laterLines
+later-cut t h = rw (lines-cut t h)
+
+pub first-none : (t : Text) → length t ≤ spanOf lineFeed t → firstLine t ≡ []
+unfolding firstLine headD
+first-none t h = rw (lines-none t h)
+
+pub later-none : (t : Text) → length t ≤ spanOf lineFeed t → laterLines t ≡ []
+unfolding laterLines
+later-none t h = rw (lines-none t h)
+
+-- the fields of a line
+pub fields-cut : (s : Text) → spanOf comma s < length s → fieldsOf s ≡ take (spanOf comma s) s ∷ fieldsOf (drop (spanOf comma s + 1) s)
+unfolding fieldsOf
+fields-cut s h = parts-cut comma s h
+
+pub fields-whole : (s : Text) → length s ≤ spanOf comma s → fieldsOf s ≡ s ∷ []
+unfolding fieldsOf
+fields-whole s h = parts-whole comma s h

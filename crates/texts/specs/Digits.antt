@@ -1,0 +1,34 @@
+-- The number at the start of a text. Assumes nothing.
+use mathlib.Core.Path.{_≡_}
+use Prim.Native.Nat.{ℕ, _≤_, _<_}
+use mathlib.Core.Bool.{Bool, true, false, cond}
+use mathlib.Core.List.{List, [], _∷_}
+use lib.ListN.{length}
+use lib.Dec.{eqb}
+use Rattle.csl.specs.Text.{Text}
+use Rattle.csl.specs.Number.{isDigit, isNumber, valueOf}
+use Rattle.texts.specs.declared.Num.{Num}
+use Rattle.texts.specs.declared.Num.the-variants.{Value, Bad}
+
+-- the digits at the start
+unfoldable pub digitRun : Text → Text
+digitRun [] = []
+digitRun (b ∷ t) = cond (isDigit b) (b ∷ digitRun t) []
+
+-- the number that they spell, of at most `most` digits, and how many they are
+unfoldable pub numberAt : ℕ → Text → Num
+numberAt most t = cond (isNumber most (digitRun t)) (Value (valueOf (digitRun t)) (length (digitRun t))) Bad
+
+-- a value of n digits: no digit is no number
+abbrev pub settled : ℕ → ℕ → Num
+settled v n = cond (eqb n 0) Bad (Value v n)
+
+-- how many bytes a reading took
+abbrev pub usedBy : Num → ℕ
+usedBy (Value v n) = n
+usedBy Bad = 0
+
+-- a number read from `size` bytes
+abbrev pub NumberFits : ℕ → Num → Type 0
+NumberFits size (Value v n) = (v < 10000000000) × (1 ≤ n) × (n ≤ size)
+NumberFits size Bad = 0 ≤ size

@@ -1,0 +1,4 @@
+-- What stands at the start of a text, and how lines and fields are cut off it.
+pub mod Digits
+pub mod Span
+pub mod Cut

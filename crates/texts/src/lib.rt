@@ -1,0 +1,109 @@
+// What stands at the start of a text: digits, the bytes before a mark; and whether two texts are the same.
+ghost use mathlib.Core.Path.{_≡_};
+ghost use Prim.Native.Nat.{_≤_};
+ghost use mathlib.Core.Bool.{_&&_};
+ghost use lib.ListN.{length};
+ghost use lib.Dec.{eqb};
+ghost use Rattle.csl.specs.Text as csl;
+ghost use Rattle.csl.specs.Number.{isDigit};
+ghost use Rattle.texts.specs.Digits.{numberAt, settled, NumberFits};
+ghost use Rattle.texts.specs.Span.{spanOf};
+
+// The number that was read, and how many bytes it takes.
+pub enum Num {
+    Value(u64, usize),
+    Bad,
+}
+
+fn wide(x: u8) -> u64
+    ensures { λ r. ⌜ r ≡ x ⌝ }
+{
+    x as u64
+}
+
+pub fn is_digit(b: u8) -> bool
+    ensures { λ r. ⌜ r ≡ isDigit b ⌝ }
+{
+    48 <= b && b <= 57
+}
+
+// No digit may follow a 0 that leads.
+fn lone_zero(value: u64, used: usize) -> bool
+    ensures { λ r. ⌜ r ≡ (eqb used 1 && eqb value 0) ⌝ }
+{
+    used == 1 && value == 0
+}
+
+// No digit is no number.
+fn settle(value: u64, used: usize) -> Num
+    ensures { λ r. ⌜ r ≡ settled value used ⌝ }
+{
+    if used == 0 {
+        Num::Bad
+    } else {
+        Num::Value(value, used)
+    }
+}
+
+// The number that the digits at the start of s spell, of at most `most` digits.
+pub fn number(s: &[u8], most: usize) -> Num
+    requires { ⌜ most ≤ 10 ⌝ }
+    ensures { λ r. ⌜ r ≡ numberAt most (now (s .entry)) ⌝ }
+    ensures within { λ r. ⌜ NumberFits (length (now (s .entry))) r ⌝ }
+{
+    let mut t = s;
+    let mut value: u64 = 0;
+    let mut used: usize = 0;
+    while 0 < t.len() {
+        let b = t[0];
+        if !is_digit(b) {
+            return settle(value, used);
+        }
+        if most <= used {
+            return Num::Bad;
+        }
+        if lone_zero(value, used) {
+            return Num::Bad;
+        }
+        value = value * 10 + wide(b - 48);
+        used += 1;
+        t = &t[1..];
+    }
+    settle(value, used)
+}
+
+// How many bytes stand before the first `mark`: all of them where there is none.
+pub fn span(s: &[u8], mark: u8) -> usize
+    ensures { λ r. ⌜ r ≡ spanOf mark (now (s .entry)) ⌝ }
+    ensures within { λ r. ⌜ r ≤ length (now (s .entry)) ⌝ }
+{
+    let mut t = s;
+    let mut i: usize = 0;
+    while 0 < t.len() {
+        if t[0] == mark {
+            return i;
+        }
+        i += 1;
+        t = &t[1..];
+    }
+    i
+}
+
+// Whether two texts have the same bytes.
+pub fn same(a: &[u8], b: &[u8]) -> bool
+    ensures { λ r. ⌜ r ≡ csl.same (now (a .entry)) (now (b .entry)) ⌝ }
+{
+    let mut s = a;
+    let mut t = b;
+    while 0 < s.len() {
+        if t.len() == 0 {
+            return false;
+        }
+        if s[0] != t[0] {
+            return false;
+        }
+        s = &s[1..];
+        t = &t[1..];
+    }
+    t.len() == 0
+}

@@ -1,0 +1,8 @@
+pub mod StepLaw
+pub mod AddedLaw
+pub mod OverLaw
+pub mod Span
+pub mod FallingLaw
+pub mod RisingLaw
+pub mod TotalLaw
+pub mod WeighLaw

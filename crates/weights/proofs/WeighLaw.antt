@@ -1,0 +1,56 @@
+-- The three parts of the table of weights, one after the other. Assumes nothing.
+use mathlib.Core.Path.{_≡_, refl, ap, sym, _∙_}
+use mathlib.Core.List.{List}
+use Prim.Native.Nat.{ℕ, zero, suc, _+_, _*_, _-_, _/_, _^_, _≤_, _<_}
+use native.Mathlib.Omega.{arith}
+use native.Mathlib.Numerals.{add-one}
+use lib.ListN.{length, getD}
+use Rattle.csl.specs.Chain.{sumTo}
+use Rattle.numbers.specs.Sum.{sum-cong}
+use Rattle.numbers.specs.Table.{Table}
+use Rattle.bounds.specs.Weight.{peak, low, apart, low-most}
+use Rattle.bounds.specs.Ends.{total}
+use Rattle.weights.specs.Asked.{Half, Rest, weighed, Total, Weigh}
+
+module _ {e w : List ℕ} {m d a b : ℕ} (p : Weigh e m d a b) (t : Table (low a b m) e w (m + 1)) where
+  pub may-rise : Rest w m d a b
+  may-rise =
+      record {
+        half = record {
+          middle = p .half .middle;
+          room = omega (arith, t .same, p .half .room);
+          steps = p .half .steps;
+          load = p .half .load;
+          small = p .half .small;
+        };
+        deep = p .deep;
+        long = omega (arith, t .same, p .long);
+        limit = p .limit;
+        stand = t .filled;
+      }
+
+module _ {e w x : List ℕ} {m d a b : ℕ} (p : Weigh e m d a b) (t : Table (low a b m) e w (m + 1)) (u : Table (low a b m) w x (d + 1)) where
+  pub may-total : Total x m d
+  may-total =
+      record {
+        deep = p .deep;
+        long = omega (arith, t .same, u .same, p .long);
+        limit = p .limit;
+        light = λ k h. rw (u .filled k h) (low-most (p .half .middle) k);
+      }
+
+  pub is-table : Table (low a b m) e x (d + 1)
+  is-table =
+      record {
+        same = u .same ∙ t .same;
+        filled = u .filled;
+        rest = λ k h. u .rest k h ∙ t .rest k (omega (arith, p .deep));
+      }
+
+  pub is-total : (r : ℕ) → r ≡ sumTo (weighed x m) (d + 1) + weighed x m d → r ≡ total a b m d
+  unfolding total
+  is-total r q =
+      q ∙
+      rw (sum-cong (weighed x m) (λ k. low a b m k + apart m k) (d + 1) (λ k h. rw (u .filled k h) refl), u .filled d (omega arith), add-one) refl
+
+pub ruleset weigh-laws = (may-rise, may-total, is-table, is-total)

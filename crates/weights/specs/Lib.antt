@@ -1,0 +1,2 @@
+-- What the functions of the weights ask.
+pub mod Asked
