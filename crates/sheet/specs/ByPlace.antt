@@ -1,0 +1,101 @@
+-- What holds of a list of moves, place by place: sums, states in range, sources that rise. Assumes nothing.
+use mathlib.Core.Path.{_≡_, refl, ap, sym, _∙_}
+use mathlib.Core.Bool.{Bool, true, false, cond, _&&_, _||_, false≢true}
+use mathlib.Core.List.{List, [], _∷_}
+use mathlib.Core.Logic.{_⊎_, inl, inr, ⊎-elim}
+use Prim.Native.Nat.{ℕ, zero, suc, _+_, _≤_, _<_}
+use native.Mathlib.Omega.{arith}
+use lib.ListN.{length, getD}
+use lib.Dec.{ltb, leb, eqb}
+use borrow.Author.Tests.{ltb-true, eqb-true, ltb-false}
+use Rattle.csl.specs.Text.{any}
+use Rattle.csl.specs.Moves.{Move, isBefore, isRising, rateIn, ratesOut}
+use Rattle.csl.specs.Chain.{sumTo}
+use Rattle.csl.specs.Laws.Rates.{Within}
+
+abbrev pub noMove : Move
+noMove = record { from = 0; to = 0; rate = 0 }
+
+-- the move at a place
+abbrev pub moveAt : List Move → ℕ → Move
+moveAt ms j = getD ms j noMove
+
+-- a sum from the first term on
+sum-first : (f : ℕ → ℕ) (n : ℕ) → sumTo f (suc n) ≡ f 0 + sumTo (λ k. f (suc k)) n
+unfolding sumTo
+sum-first f zero = omega arith
+sum-first f (suc n) = omega (arith, sum-first f n)
+
+pub rate-by-place : (ms : List Move) (s g : ℕ)
+    → rateIn ms s g ≡ sumTo (λ j. cond (eqb (moveAt ms j .from) s && eqb (moveAt ms j .to) g) (moveAt ms j .rate) 0) (length ms)
+unfolding rateIn sumTo
+rate-by-place [] s g = refl
+rate-by-place (m ∷ ms) s g =
+    ap (λ (x : ℕ). cond (eqb (m .from) s && eqb (m .to) g) (m .rate) 0 + x) (rate-by-place ms s g) ∙ sym (sum-first _ (length ms))
+
+pub out-by-place : (ms : List Move) (s : ℕ)
+    → ratesOut ms s ≡ sumTo (λ j. cond (eqb (moveAt ms j .from) s) (moveAt ms j .rate) 0) (length ms)
+unfolding ratesOut sumTo
+out-by-place [] s = refl
+out-by-place (m ∷ ms) s =
+    ap (λ (x : ℕ). cond (eqb (m .from) s) (m .rate) 0 + x) (out-by-place ms s) ∙ sym (sum-first _ (length ms))
+
+pub within-place : (n : ℕ) (ms : List Move) → Within n ms → (j : ℕ) → j < length ms → (moveAt ms j .from < n) × (moveAt ms j .to < n)
+unfolding Within
+within-place n [] w j l = absurd (omega arith)
+within-place n (m ∷ ms) w zero l = (w .0, w .1)
+within-place n (m ∷ ms) w (suc j) l = within-place n ms (w .2) j (omega arith)
+
+-- rising moves leave states that do not fall
+before-le : (a b : Move) → isBefore a b ≡ true → a .from ≤ b .from
+before-le a b h = go (ltb (a .from) (b .from)) (eqb (a .from) (b .from)) refl refl h
+  where
+    go : (x y : Bool) → ltb (a .from) (b .from) ≡ x → eqb (a .from) (b .from) ≡ y → (x || y && ltb (a .to) (b .to)) ≡ true → a .from ≤ b .from
+    go true y e f k = omega (arith, ltb-true (a .from) (b .from) e)
+    go false true e f k = omega (arith, eqb-true (a .from) (b .from) f)
+    go false false e f k = absurd (false≢true k)
+
+and-true : (x y : Bool) → (x && y) ≡ true → (x ≡ true) × (y ≡ true)
+and-true true y h = (refl, h)
+and-true false y h = absurd (false≢true h)
+
+rising-first : (m : Move) (ms : List Move) → isRising (m ∷ ms) ≡ true → (j : ℕ) → j < length ms → m .from ≤ moveAt ms j .from
+unfolding isRising
+rising-first m [] h j l = absurd (omega arith)
+rising-first m (a ∷ ms) h zero l = before-le m a (and-true (isBefore m a) (isRising (a ∷ ms)) h .0)
+rising-first m (a ∷ ms) h (suc j) l =
+    let p = and-true (isBefore m a) (isRising (a ∷ ms)) h in omega (arith, before-le m a (p .0), rising-first a ms (p .1) j (omega arith))
+
+rising-rest : (m : Move) (ms : List Move) → isRising (m ∷ ms) ≡ true → isRising ms ≡ true
+unfolding isRising
+rising-rest m [] h = refl
+rising-rest m (a ∷ ms) h = and-true (isBefore m a) (isRising (a ∷ ms)) h .1
+
+pub rising-places : (ms : List Move) → isRising ms ≡ true → (i j : ℕ) → i ≤ j → j < length ms → moveAt ms i .from ≤ moveAt ms j .from
+rising-places [] h i j k l = absurd (omega arith)
+rising-places (m ∷ ms) h zero zero k l = omega arith
+rising-places (m ∷ ms) h zero (suc j) k l = rising-first m ms h j (omega arith)
+rising-places (m ∷ ms) h (suc i) zero k l = absurd (omega arith)
+rising-places (m ∷ ms) h (suc i) (suc j) k l = rising-places ms (rising-rest m ms h) i j (omega arith) (omega arith)
+
+-- a state that a line leaves keeps the limit of rates; one that none leaves has no rate
+or-false : (a b : Bool) → (a || b) ≡ false → (a ≡ false) × (b ≡ false)
+or-false true b h = absurd (false≢true (sym h))
+or-false false b h = (refl, h)
+
+left-within : (b : ℕ) (f : ℕ → ℕ) (s : ℕ) (ms : List Move) → any (λ m. eqb (m .rate) 0 || ltb b (f (m .from))) ms ≡ false
+    → f s ≤ b ⊎ ratesOut ms s ≡ 0
+unfolding any ratesOut
+left-within b f s [] h = inr refl
+left-within b f s (m ∷ ms) h =
+    let p = or-false (eqb (m .rate) 0 || ltb b (f (m .from))) _ h in
+    go (eqb (m .from) s) refl (ltb-false _ _ (or-false (eqb (m .rate) 0) _ (p .0) .1)) (left-within b f s ms (p .1))
+  where
+    go : (x : Bool) → eqb (m .from) s ≡ x → f (m .from) ≤ b → f s ≤ b ⊎ ratesOut ms s ≡ 0
+        → f s ≤ b ⊎ cond (eqb (m .from) s) (m .rate) 0 + ratesOut ms s ≡ 0
+    go true e k r = let z : m .from ≡ s = eqb-true _ _ e in inl (omega (arith, ap f z))
+    go false e k (inl r) = inl r
+    go false e k (inr r) = inr (rw e (omega arith))
+
+pub rates-within : (b s : ℕ) (ms : List Move) → any (λ m. eqb (m .rate) 0 || ltb b (ratesOut ms (m .from))) ms ≡ false → ratesOut ms s ≤ b
+rates-within b s ms h = ⊎-elim (λ l. l) (λ e. omega arith) (left-within b (ratesOut ms) s ms h)

@@ -1,0 +1,3 @@
+-- What the words that a sheet's moves are stored in say of its chain.
+pub mod ByPlace
+pub mod Stored
