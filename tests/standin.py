@@ -1,0 +1,38 @@
+"""Stands in for the program: `python3 -m tests.standin FOLDER` prints a report that the rules allow, from the second reckoning.
+
+Of the ends that are allowed it takes the nearest two.
+"""
+import sys
+
+from reckoning.__main__ import read_texts
+from reckoning.backing import near, near_operands
+from reckoning.ends import Rules
+from reckoning.formula import P
+from reckoning.judge import report_depth
+from reckoning.refusal import refusal
+from reckoning.report import ENDS_OF, HEAD, refused
+from reckoning.verdict import of_ends
+
+
+def answer(moves, labels, formula):
+    """The bytes that are printed for a job."""
+    job = refusal(moves, labels, formula)
+    if isinstance(job, int):
+        return refused(job)
+    rules = Rules(job.chain)
+    depth = report_depth(rules, job.tree)
+    lines = [f"{state},{lower},{upper},{depth},{word}" for state, (lower, upper, word) in enumerate(rows(rules, job.tree))]
+    return HEAD + b"\n" + "".join(line + "\n" for line in lines).encode()
+
+
+def rows(rules, tree):
+    """The two ends and the verdict of each state."""
+    if not isinstance(tree, P):
+        return [(*ENDS_OF[word], word) for word in near(rules, tree)]
+    every = rules.ends(tree.path, *near_operands(rules, tree))
+    pairs = [(ends.lower[1], ends.upper[0]) for ends in every]
+    return [(*pair, of_ends(tree.comparison, tree.threshold, *pair)) for pair in pairs]
+
+
+if __name__ == "__main__":
+    sys.stdout.buffer.write(answer(*read_texts(sys.argv[1])))

@@ -1,0 +1,214 @@
+"""tools/curve: the picture is well-formed and shows what was printed; no picture, and the reason, where there is none to draw."""
+import io
+import re
+import shlex
+import subprocess
+import sys
+import tempfile
+import unittest
+from contextlib import redirect_stderr, redirect_stdout
+from importlib.machinery import SourceFileLoader
+from importlib.util import module_from_spec, spec_from_loader
+from pathlib import Path
+from xml.etree import ElementTree
+
+from reckoning.__main__ import read_texts
+from reckoning.judge import judge
+from reckoning.report import read_report
+from reckoning.tests.sheets import LABELS, MOVES, row, texts
+from tests.standin import answer
+
+ROOT = Path(__file__).resolve().parent.parent
+EXAMPLES = ROOT / "examples"
+TOOLS = ROOT / "tools"
+STANDIN = shlex.join(["env", f"PYTHONPATH={ROOT}", sys.executable, "-m", "tests.standin"])
+SVG = "{http://www.w3.org/2000/svg}"
+BILLION = 1_000_000_000
+PIXEL = 0.02                # coordinates are rounded to a hundredth
+
+
+def loaded():
+    """The command as a module; its name has no ending."""
+    sys.path.insert(0, str(TOOLS))
+    module = module_from_spec(spec_from_loader("curve", SourceFileLoader("curve", str(TOOLS / "curve"))))
+    module.__loader__.exec_module(module)
+    return module
+
+
+COMMAND = loaded()
+
+
+def curve(*arguments, run=STANDIN):
+    """The status of the command, what it drew and what it said."""
+    with redirect_stdout(io.StringIO()) as drawn, redirect_stderr(io.StringIO()) as said:
+        try:
+            status = COMMAND.main([*map(str, arguments), "--run", run])
+        except SystemExit as stop:
+            status = stop.code
+    return status, drawn.getvalue(), said.getvalue()
+
+
+class Picture:
+    """A drawn picture, read back by its ticks."""
+
+    def __init__(self, drawn):
+        self.tree = ElementTree.fromstring(drawn)
+
+    def all(self, tag, kind):
+        return [part for part in self.tree.iter(SVG + tag) if part.get("class") == kind]
+
+    def words(self):
+        return [part.text for part in self.tree.iter(SVG + "text")]
+
+    def scale(self, axis):
+        """How many pixels a unit has on an axis, and where 0 lies."""
+        ticks = self.all("text", axis)
+        first, last = ticks[0], ticks[-1]
+        below = 5 if axis == "y" else 0     # the words stand a little below their tick
+        pixels = [float(tick.get(axis)) - below for tick in (first, last)]
+        unit = (pixels[1] - pixels[0]) / (float(last.text) - float(first.text))
+        return unit, pixels[0] - float(first.text) * unit
+
+    def places(self, kind):
+        """The places of a curve, in pixels."""
+        line, = self.all("polyline", kind)
+        return [tuple(map(float, pair.split(","))) for pair in line.get("points").split()]
+
+    def marks(self):
+        """The numbers told at each point: hours, lower, upper and verdict."""
+        told = [part.find(SVG + "title") for part in self.tree.iter(SVG + "g")]
+        pattern = re.compile(r"(\S+) hours: lower (\d+), upper (\d+) billionths, (\w+)")
+        return [pattern.fullmatch(part.text).groups() for part in told if part is not None]
+
+
+class Curve(unittest.TestCase):
+    def drawn(self, *arguments):
+        status, picture, said = curve(*arguments)
+        self.assertEqual((status, said), (0, ""))
+        return Picture(picture)
+
+    def shows(self, picture, rows):
+        """The picture shows these rows of reports, given by their hours."""
+        (x_unit, x_zero), (y_unit, y_zero) = picture.scale("x"), picture.scale("y")
+        for kind in ("lower", "upper"):
+            for (x, y), (hours, row) in zip(picture.places(kind), rows.items(), strict=True):
+                self.assertAlmostEqual(x, x_zero + x_unit * hours, delta=PIXEL)
+                self.assertAlmostEqual(y, y_zero + y_unit * getattr(row, kind) / BILLION, delta=PIXEL)
+        self.assertEqual(picture.marks(), [(str(hours), str(row.lower), str(row.upper), row.verdict) for hours, row in rows.items()])
+
+    def rows(self, folder, formula, hours, state):
+        """The rows of one state as the stand-in prints them; the formula has %d for the hours."""
+        moves, labels, _ = read_texts(folder)
+        printed = {each: answer(moves, labels, formula % each) for each in hours}
+        states = len(labels.splitlines()) - 1
+        return {each: read_report(text, states)[state] for each, text in printed.items()}
+
+    def test_shows_the_ends(self):
+        folder = EXAMPLES / "gun-string"
+        picture = self.drawn(folder, "0", "8", "24", "48")
+        self.shows(picture, self.rows(folder, b"P <= 10000000 U %d power lost\n", (0, 8, 24, 48), 0))
+        for words in ("gun-string", "state 0: collar good, gamma good, power up", "P <= 10000000 U t power lost",
+                      "hours", "probability", "lower end", "upper end", "threshold 0.01"):
+            self.assertIn(words, picture.words())
+
+    def test_threshold(self):
+        picture = self.drawn(EXAMPLES / "gun-string", "8", "48")
+        unit, zero = picture.scale("y")
+        heights = {float(line.get("y1")) for line in picture.all("line", "threshold")[1:]}
+        self.assertEqual({round(height, 1) for height in heights}, {round(zero + unit * 0.01, 1)})
+        far = self.drawn(EXAMPLES / "gun-string", "0", "1")
+        self.assertEqual(len(far.all("line", "threshold")), 1)
+        self.assertIn("threshold 0.01, above this picture", far.words())
+
+    def test_inner_hours_stay(self):
+        folder = EXAMPLES / "redundant-string"
+        picture = self.drawn(folder, "72", "12", "12", "--state", "32")
+        formula = b"P <= 150000000 U %d & power modem P > 2000000 U 8 & power modem ! depth\n"
+        self.shows(picture, self.rows(folder, formula, (12, 72), 32))
+
+    def test_until_under_an_implication(self):
+        folder = EXAMPLES / "polling-3"
+        picture = self.drawn(folder, "50", "100", "--state", "17")
+        self.shows(picture, self.rows(folder, b"P >= 900000000 U %d tt pollone\n", (50, 100), 17))
+
+    def test_ends_apart(self):
+        """An undecided operand drives the ends apart."""
+        with tempfile.TemporaryDirectory() as folder:
+            moves, labels = texts(row(60, 20_000))
+            write(folder, moves, labels, b"P >= 600000000 U 5 tt P > 0 U 1 up dead\n")
+            picture = self.drawn(folder, "100", "300", "--state", "50")
+            self.shows(picture, self.rows(folder, b"P >= 600000000 U %d tt P > 0 U 1 up dead\n", (100, 300), 50))
+            self.assertIn("state 50", picture.words())
+
+    def test_one_point_and_flat_curves(self):
+        with tempfile.TemporaryDirectory() as folder:
+            write(folder, MOVES, LABELS, b"P >= 0 U 0 up dead\n")
+            self.shows(self.drawn(folder, "0"), self.rows(folder, b"P >= 0 U %d up dead\n", (0,), 0))
+            self.shows(self.drawn(folder, "5", "--state", "1"), self.rows(folder, b"P >= 0 U %d up dead\n", (5,), 1))
+
+    def test_written_to_a_file(self):
+        with tempfile.TemporaryDirectory() as folder:
+            out = Path(folder) / "curve.svg"
+            self.assertEqual(curve(EXAMPLES / "small", "1", "2", "--out", out), (0, "", ""))
+            given = [TOOLS / "curve", "--run", STANDIN, EXAMPLES / "small", "2", "1"]
+            self.assertEqual(out.read_bytes(), subprocess.run(given, stdout=subprocess.PIPE, check=True).stdout)
+
+
+class NoPicture(unittest.TestCase):
+    def refuses(self, said, *arguments, **more):
+        status, picture, told = curve(*arguments, **more)
+        self.assertEqual((status, picture), (1, ""))
+        self.assertIn(said, told)
+
+    def test_refusal(self):
+        self.refuses("refused with 14 at 110 h", EXAMPLES / "polling-3", "100", "110")
+        self.refuses("refused with 13 at 9000 h", EXAMPLES / "small", "9000")
+        with tempfile.TemporaryDirectory() as folder:
+            write(folder, MOVES, LABELS, b"P >= 5 U 2 up gas\n")
+            out = Path(folder) / "curve.svg"
+            self.refuses("refused with 12 at 1 h", folder, "1", "--out", out)
+            self.assertFalse(out.exists())
+
+    def test_formula(self):
+        for formula, said in ((b"& up ! dead\n", "no until"), (b"", "no until"), (b"P >=\n", "grammar"), (b"P >= 5 W 2 up dead\n", "grammar"),
+                              (b"P >= 5 U 2 up\n", "refused with 10"), (b"P >= 5 U 2 up  dead\n", "refused with 10"),
+                              (b"P >= 5 U 2 up dead dead\n", "refused with 10"), (b"\xff\n", "decode")):
+            with self.subTest(formula), tempfile.TemporaryDirectory() as folder:
+                write(folder, MOVES, LABELS, formula)
+                self.refuses(said, folder, "1")
+
+    def test_sheet_and_state(self):
+        self.refuses("No such file", EXAMPLES / "none", "1")
+        self.refuses("no state 2", EXAMPLES / "small", "1", "--state", "2")
+
+    def test_program(self):
+        self.refuses("cannot run", EXAMPLES / "small", "1", run="/nowhere/program")
+        self.refuses("printed no report", EXAMPLES / "small", "1", run="echo")
+        self.refuses("printed no report", EXAMPLES / "small", "1", run="echo refused")
+        short = shlex.join(["sh", "-c", r"printf 'state,lower,upper,depth,verdict\n0,1\n'"])
+        self.refuses("no state 0", EXAMPLES / "small", "1", run=short)
+
+    def test_arguments(self):
+        for given in (("x",), ("-1",), ("1e3",), ("1", "--state", "up"), ()):
+            with self.subTest(given):
+                self.assertEqual(curve(EXAMPLES / "small", *given)[0], 2)
+
+
+class Standin(unittest.TestCase):
+    def test_prints_what_the_rules_allow(self):
+        for path in EXAMPLES.glob("*/moves.txt"):
+            with self.subTest(path.parent.name):
+                sheet = read_texts(path.parent)
+                self.assertEqual(judge(*sheet, answer(*sheet)), [])
+
+    def test_refuses(self):
+        self.assertEqual(answer(MOVES, LABELS, b"gas\n"), b"refused\n12\n")
+
+
+def write(folder, moves, labels, formula):
+    for name, text in (("moves.txt", moves), ("labels.txt", labels), ("formula.txt", formula)):
+        (Path(folder) / name).write_bytes(text)
+
+
+if __name__ == "__main__":
+    unittest.main()

@@ -1,0 +1,122 @@
+"""The example sheets: as the generator writes them, accepted, and what the rules allow agrees with doubles and with the README files."""
+import re
+import subprocess
+import unittest
+from pathlib import Path
+
+from examples.generate import SHEETS, texts
+from reckoning.__main__ import read_texts
+from reckoning.formula import P, bounds, operands
+from reckoning.judge import allowed_ends, judge
+from reckoning.refusal import Job, refusal
+from tests.floats import Floats
+
+ROOT = Path(__file__).resolve().parent.parent
+EXAMPLES = ROOT / "examples"
+FOLDERS = sorted(path.parent for path in EXAMPLES.glob("*/moves.txt"))
+PROGRAM = ROOT / "sheetcheck"
+
+BILLION = 1_000_000_000
+CLOSE = 1e-6                # what a double may be off the ends
+TABLE_LINE = re.compile(r"\| (\d+) \| [^|]+ \| ([0-9.]+) \| (yes|no) \|")
+INDEX_LINE = re.compile(r"\| `([a-z0-9-]+)` \| (\d+) \| (\d+) \| .*")
+
+
+def printed(folder):
+    """What the program prints for the sheet in a folder. Skips the test that asks while no program is built."""
+    if not PROGRAM.exists():
+        raise unittest.SkipTest(f"no program {PROGRAM.name} is built")
+    return subprocess.run([PROGRAM, folder], stdout=subprocess.PIPE, check=True).stdout
+
+
+def word(holds):
+    return "yes" if holds else "no"
+
+
+class Examples(unittest.TestCase):
+    def test_are_as_the_generator_writes_them(self):
+        self.assertEqual([folder.name for folder in FOLDERS], sorted(SHEETS))
+        for folder in FOLDERS:
+            with self.subTest(folder.name):
+                wanted = texts(SHEETS[folder.name])
+                self.assertEqual({path.name for path in folder.iterdir()}, {*wanted, "README.md"})
+                for name, text in wanted.items():
+                    self.assertTrue((folder / name).read_bytes() == text, f"{name} is not as generated")
+
+    def test_are_accepted(self):
+        for folder in FOLDERS:
+            with self.subTest(folder.name):
+                self.assertIsInstance(refusal(*read_texts(folder)), Job)
+
+    def test_some_are_nested(self):
+        trees = [refusal(*read_texts(folder)).tree for folder in FOLDERS]
+        self.assertTrue(any(isinstance(below, P) for tree in trees for p in bounds(tree) for below in operands(p)))
+
+    def test_program_keeps_the_rules(self):
+        for folder, answer in [(folder, printed(folder)) for folder in FOLDERS]:
+            with self.subTest(folder.name):
+                self.assertEqual(judge(*read_texts(folder), answer), [])
+
+
+class Doubles(unittest.TestCase):
+    def test_ends_of_the_outermost_until(self):
+        for folder in FOLDERS:
+            moves, labels, formula = read_texts(folder)
+            until = Floats(moves, labels, formula).outermost_until
+            allowed = allowed_ends(moves, labels, until.text.encode() + b"\n")
+            for state, (chance, lower, upper) in enumerate(zip(until.chance, allowed.lower, allowed.upper, strict=True)):
+                with self.subTest(folder.name, state=state):
+                    self.assertAlmostEqual(chance, lower[1] / BILLION, delta=CLOSE)
+                    self.assertAlmostEqual(chance, upper[0] / BILLION, delta=CLOSE)
+
+    def test_verdicts(self):
+        """No threshold is so near a chance that the rules leave a choice."""
+        for folder in FOLDERS:
+            with self.subTest(folder.name):
+                sheet = read_texts(folder)
+                holds = Floats(*sheet).nodes[0].holds
+                self.assertEqual(allowed_ends(*sheet).verdicts, [{word(each)} for each in holds])
+
+
+class Told(unittest.TestCase):
+    def test_tables(self):
+        for folder in FOLDERS:
+            floats = Floats(*read_texts(folder))
+            lines = TABLE_LINE.findall((folder / "README.md").read_text())
+            self.assertGreaterEqual(len(lines), 2, folder.name)
+            for state, chance, verdict in lines:
+                with self.subTest(folder.name, state=state):
+                    decimals = len(chance.partition(".")[2])
+                    exact = floats.outermost_until.chance[int(state)]
+                    self.assertEqual((chance, verdict), (f"{exact:.{decimals}f}", word(floats.nodes[0].holds[int(state)])))
+
+    def test_formulas(self):
+        for folder in FOLDERS:
+            with self.subTest(folder.name):
+                formula = (folder / "formula.txt").read_text().rstrip("\n")
+                self.assertIn(f"`{formula}`", (folder / "README.md").read_text())
+
+    def test_index(self):
+        found = INDEX_LINE.findall((EXAMPLES / "README.md").read_text())
+        jobs = [(folder.name, refusal(*read_texts(folder))) for folder in FOLDERS]
+        self.assertEqual(sorted(found), [(name, str(job.chain.states), str(len(job.moves))) for name, job in jobs])
+
+    def test_sizes_of_the_documents(self):
+        """States and moves that documents 001 and 003 print."""
+        sizes = {"tandem-2": (15, 33), "tandem-5": (66, 189), "polling-3": (36, 84), "random-walk": (307, 610)}
+        for name, size in sizes.items():
+            with self.subTest(name):
+                self.assertEqual((len(SHEETS[name].states), len(SHEETS[name].moves)), size)
+
+    def test_chances_of_document_001(self):
+        """Table 1 for 10, 20 and 30 hours, to its four decimals."""
+        moves, labels, _ = read_texts(EXAMPLES / "random-walk-even")
+        for hours, chance in ((10, 0.0022), (20, 0.0266), (30, 0.0688)):
+            with self.subTest(hours=hours):
+                allowed = allowed_ends(moves, labels, b"P < 10000000 U %d tt far\n" % hours)
+                self.assertEqual(round(allowed.lower[0][1] / BILLION, 4), chance)
+                self.assertEqual(round(allowed.upper[0][0] / BILLION, 4), chance)
+
+
+if __name__ == "__main__":
+    unittest.main()

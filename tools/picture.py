@@ -1,0 +1,157 @@
+"""A picture of two ends against time, as SVG text."""
+from collections import namedtuple
+from decimal import ROUND_CEILING, Decimal
+from html import escape
+
+BILLION = 1_000_000_000
+
+# The two ends, in billionths, and the verdict at so many hours.
+Point = namedtuple("Point", "hours lower upper verdict")
+
+# An axis: what lies at its ends, the pixels there, and the values that have a tick.
+Axis = namedtuple("Axis", "low high start end ticks")
+
+WIDTH, HEIGHT = 860, 580
+LEFT, RIGHT, TOP, BOTTOM = 110, 830, 132, 490       # of the plot
+LEGEND = 106
+MOST_TICKS = 9
+MOST_MARKS = 60             # with more points the lines go without marks
+FAR = 5                     # a threshold over so many times the greatest upper end is not drawn
+TITLE_LETTERS, LINE_LETTERS = 64, 90
+
+STYLE = """
+text { font-family: Helvetica, Arial, 'DejaVu Sans', sans-serif; font-size: 14px; fill: #222; }
+.title { font-size: 18px; font-weight: bold; }
+.formula { font-family: Menlo, Consolas, 'DejaVu Sans Mono', monospace; font-size: 13px; }
+.note { font-size: 13px; fill: #555; }
+.grid { stroke: #e3e3e3; }
+.axis, .tick { stroke: #222; }
+.between { fill: #e08a1e; fill-opacity: 0.18; stroke: none; }
+.upper { fill: none; stroke: #f0a33c; stroke-width: 6; stroke-linejoin: round; }
+.lower { fill: none; stroke: #123f8f; stroke-width: 2.2; stroke-linejoin: round; }
+circle.upper { fill: #fff; stroke-width: 2.5; }
+circle.lower { fill: #123f8f; stroke: none; }
+.threshold { stroke: #b3202c; stroke-width: 1.8; stroke-dasharray: 8 5; }
+"""
+
+
+def draw(title, state, formula, points, threshold):
+    """The picture of points in the order of their hours, with three lines of words; `threshold` is in billionths."""
+    x, y = axes(points, threshold)
+    parts = [
+        f'<svg xmlns="http://www.w3.org/2000/svg" width="{WIDTH}" height="{HEIGHT}" viewBox="0 0 {WIDTH} {HEIGHT}">',
+        f"<title>{escape(title)}, {escape(state)}</title>", f"<desc>{escape(formula)}</desc>", f"<style>{STYLE}</style>",
+        f'<rect width="{WIDTH}" height="{HEIGHT}" fill="#fff"/>',
+        text(LEFT, 32, cut(title, TITLE_LETTERS), "title"), text(LEFT, 56, cut(state, LINE_LETTERS)),
+        text(LEFT, 79, cut(formula, LINE_LETTERS), "formula"),
+        *legend(threshold, threshold <= y.high), *frame(x, y), *curves(x, y, points)]
+    if threshold <= y.high:
+        parts.append(line(LEFT, at(y, threshold), RIGHT, at(y, threshold), "threshold"))
+    parts.append(text(RIGHT, BOTTOM + 72, apart(points), "note", "end"))
+    return "\n".join(parts) + "\n</svg>\n"
+
+
+def apart(points):
+    most = max(point.upper - point.lower for point in points)
+    return f"the two ends are at most {most} billionth{'' if most == 1 else 's'} apart"
+
+
+def axes(points, threshold):
+    first, last = points[0].hours, points[-1].hours
+    if first == last:
+        first, last = Decimal(0), last or Decimal(1)
+    greatest = Decimal(max(point.upper for point in points))
+    if threshold <= FAR * greatest or greatest == 0:
+        greatest = max(greatest, Decimal(threshold))
+    greatest = greatest or Decimal(BILLION)
+    step = tick_step(greatest)
+    top = (greatest / step).to_integral_value(ROUND_CEILING) * step
+    return (Axis(first, last, LEFT, RIGHT, ticks(first, last, tick_step(last - first))),
+            Axis(Decimal(0), top, BOTTOM, TOP, ticks(Decimal(0), top, step)))
+
+
+def tick_step(span):
+    """The least of 1, 2, 5, 10, 20, .. that makes few ticks."""
+    power = Decimal(1)
+    while True:
+        for factor in (1, 2, 5):
+            if span / (power * factor) <= MOST_TICKS - 1:
+                return power * factor
+        power *= 10
+
+
+def ticks(low, high, step):
+    """The multiples of a step from low to high."""
+    first = (low / step).to_integral_value(ROUND_CEILING)
+    return [step * (first + more) for more in range(int(high / step - first) + 1)]
+
+
+def at(axis, value):
+    """Where a value lies, in pixels."""
+    return axis.start + float((value - axis.low) / (axis.high - axis.low)) * (axis.end - axis.start)
+
+
+def frame(x, y):
+    """The two axes with ticks, grid lines and names."""
+    decimals = max(len(plain(value / BILLION).partition(".")[2]) for value in y.ticks)
+    for value in y.ticks:
+        height = at(y, value)
+        yield line(LEFT, height, RIGHT, height, "grid")
+        yield line(LEFT - 6, height, LEFT, height, "tick")
+        yield text(LEFT - 10, height + 5, f"{value / BILLION:.{decimals}f}" if value else "0", "y", "end")
+    for value in x.ticks:
+        place = at(x, value)
+        yield line(place, BOTTOM, place, BOTTOM + 6, "tick")
+        yield text(place, BOTTOM + 24, plain(value), "x", "middle")
+    yield line(LEFT, BOTTOM, RIGHT, BOTTOM, "axis")
+    yield line(LEFT, TOP, LEFT, BOTTOM, "axis")
+    yield text((LEFT + RIGHT) / 2, BOTTOM + 48, "hours", anchor="middle")
+    yield f'<g transform="translate(26 {(TOP + BOTTOM) / 2}) rotate(-90)">{text(0, 0, "probability", anchor="middle")}</g>'
+
+
+def curves(x, y, points):
+    """The upper end under the lower, so that both are seen where they meet; a mark with its numbers at each point."""
+    upper = [(at(x, point.hours), at(y, point.upper)) for point in points]
+    lower = [(at(x, point.hours), at(y, point.lower)) for point in points]
+    yield f'<polygon class="between" points="{places(upper + lower[::-1])}"/>'
+    yield f'<polyline class="upper" points="{places(upper)}"/>'
+    yield f'<polyline class="lower" points="{places(lower)}"/>'
+    if len(points) <= MOST_MARKS:
+        for point, high, low in zip(points, upper, lower):
+            told = f"{plain(point.hours)} hours: lower {point.lower}, upper {point.upper} billionths, {point.verdict}"
+            yield f"<g><title>{escape(told)}</title>{mark(high, 5, 'upper')}{mark(low, 3, 'lower')}</g>"
+
+
+def legend(threshold, drawn):
+    """A row above the plot."""
+    note = "" if drawn else ", above this picture"
+    words = {"upper": "upper end", "lower": "lower end", "threshold": f"threshold {plain(Decimal(threshold) / BILLION)}{note}"}
+    for place, (kind, name) in zip((LEFT, LEFT + 140, LEFT + 280), words.items()):
+        yield line(place, LEGEND, place + 34, LEGEND, kind) + text(place + 42, LEGEND + 5, name)
+
+
+def text(x, y, words, kind=None, anchor=None):
+    extra = (f' class="{kind}"' if kind else "") + (f' text-anchor="{anchor}"' if anchor else "")
+    return f'<text x="{x:.2f}" y="{y:.2f}"{extra}>{escape(words)}</text>'
+
+
+def line(x1, y1, x2, y2, kind):
+    return f'<line class="{kind}" x1="{x1:.2f}" y1="{y1:.2f}" x2="{x2:.2f}" y2="{y2:.2f}"/>'
+
+
+def mark(place, radius, kind):
+    return f'<circle class="{kind}" cx="{place[0]:.2f}" cy="{place[1]:.2f}" r="{radius}"/>'
+
+
+def places(pairs):
+    return " ".join(f"{x:.2f},{y:.2f}" for x, y in pairs)
+
+
+def plain(number):
+    """A decimal without an exponent and without trailing zeros."""
+    digits = f"{number:f}"
+    return digits.rstrip("0").rstrip(".") if "." in digits else digits
+
+
+def cut(words, most):
+    return words if len(words) <= most else words[:most - 2] + " \N{HORIZONTAL ELLIPSIS}"
