@@ -12,6 +12,7 @@ pub mod Complement
 pub mod Ends
 pub mod PointEnds
 pub mod Enclosure
+pub mod Sides
 pub mod Judging
 pub mod Agree
 pub mod Settled

@@ -14,7 +14,7 @@ use Rattle.csl.specs.Fraction.{frac, IsFraction, Below, times, sumUp, bi
 use Rattle.csl.specs.Grammar.{readState, whole, Spells}
 use Rattle.csl.specs.Chain.{Chain, load, depth}
 use Rattle.csl.specs.Phase.{untilPhase, divisor, stepTop, weight, untilQuotient}
-use Rattle.csl.specs.Verdicts.{Verdict, Yes, Reading, asNo}
+use Rattle.csl.specs.Verdicts.{Verdict, Yes, Reading, asNo, Sides}
 use Rattle.csl.specs.Ends.{AllDecided}
 use Rattle.csl.specs.Backing.{AtEach, Backed, NothingUndecided}
 use Rattle.csl.specs.Truth.{Obeys, Throughout}
@@ -26,6 +26,8 @@ use Rattle.csl.specs.Laws.Fraction.{under-below}
 use Rattle.csl.specs.Laws.Steps.{step-le, step-rises, divisor-some}
 use Rattle.csl.specs.Laws.Quotient.{Implies, until-starts, until-under, until-is, until-le, until-rises, weights-some}
 use Rattle.csl.specs.Laws.Tail.{half-weight, light-from, after}
+use Rattle.csl.specs.Laws.Ends.{ordered}
+use Rattle.csl.specs.Laws.Sides.{judged-sides}
 use Rattle.csl.specs.Laws.Enclosure.{Encloses, encloses}
 use Rattle.csl.specs.Laws.Settled.{verdicts-obey}
 use Rattle.csl.specs.Laws.Throughout.{throughout, Together, backings-agree}
@@ -50,6 +52,12 @@ module _ (c : Chain) (r : Comparison) (p t : ℕ) (a b : Formula) (lower upper :
   pub intervals-are-narrow : AllDecided c (k .first) → AllDecided c (k .second) → (s : ℕ) → s < c .states
       → upper s ≤ lower s + widthFactor * depth c t
   intervals-are-narrow i j s l = k .ends s l .width i j
+
+  -- Demand 2: yes when the interval lies wholly on the threshold's true side, no when wholly on the false side, else undecided
+  pub verdicts-follow-from-the-intervals : (s : ℕ) → s < c .states → Sides (v s) r p (lower s) (upper s)
+  verdicts-follow-from-the-intervals s l =
+      rw (k .verdict s l)
+      (judged-sides p (lower s) (upper s) (ordered c t (k .first) (k .second) s (lower s) (upper s) l (k .ends s l)) r)
 
 -- T2. Demand 3: "every truth table that obeys CSL's rules agrees with each yes and no, nested formulas included". At every node, and for
 -- the verdicts of every report.
