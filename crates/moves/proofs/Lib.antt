@@ -1,0 +1,6 @@
+pub mod LineLaw
+pub mod ReadLaw
+pub mod FactsLaw
+pub mod RatesLaw
+pub mod TextLaw
+pub mod StoreLaw

@@ -1,0 +1,146 @@
+-- The rates of rising moves, run by run. Assumes nothing.
+use mathlib.Core.Path.{_≡_, refl, sym, ap, _∙_}
+use Prim.Native.Nat.{ℕ, zero, suc, _+_, _*_, _≤_, _<_}
+use native.Mathlib.Omega.{arith}
+use native.Mathlib.Nat.{le-refl}
+use mathlib.Core.Bool.{Bool, true, false, cond, not, _&&_, _||_, or-false, or-true, and-eq-true-iff}
+use mathlib.Core.List.{List, [], _∷_}
+use lib.ListN.{length}
+use lib.Dec.{leb, ltb, eqb}
+use borrow.Author.Tests.{lt-ltb, le-ltb, eq-eqb, ne-eqb, ltb-true, ltb-false, eqb-true, eqb-false}
+use Rattle.csl.specs.Text.{any}
+use Rattle.csl.specs.Limits.{mostRate}
+use Rattle.csl.specs.Moves.{Move, isBefore, isRising, ratesOut}
+use Rattle.moves.specs.Tally.{begun, added, sumAfter, tallied}
+use Rattle.moves.specs.Facts.{hasWrongRate}
+use Rattle.moves.specs.declared.Tally.{Tally}
+
+-- each leaves a state from k on
+data AllFrom : ℕ → List Move → Type 0 where
+  none : {k : ℕ} → AllFrom k []
+  one : {k : ℕ} {m : Move} {ms : List Move} → k ≤ m .from → AllFrom k ms → AllFrom k (m ∷ ms)
+
+data Sorted : List Move → Type 0 where
+  empty : Sorted []
+  next : {m : Move} {ms : List Move} → AllFrom (m .from) ms → Sorted ms → Sorted (m ∷ ms)
+
+lower : (k j : ℕ) (ms : List Move) → j ≤ k → AllFrom k ms → AllFrom j ms
+lower k j [] h none = none
+lower k j (m ∷ ms) h (one l f) = let q : j ≤ m .from = omega arith in one q (lower k j ms h f)
+
+sorted : (ms : List Move) → isRising ms ≡ true → Sorted ms
+unfolding isRising
+sorted [] h = empty
+sorted (m ∷ []) h = next none empty
+sorted (m ∷ b ∷ ms) h =
+    let p = and-eq-true-iff (isBefore m b) (isRising (b ∷ ms)) .0 h in
+    step (p .0) (sorted (b ∷ ms) (p .1))
+  where
+    up : (x y : Bool) → ltb (m .from) (b .from) ≡ x → eqb (m .from) (b .from) ≡ y → (x || y && ltb (m .to) (b .to)) ≡ true → m .from ≤ b .from
+    up true y e f g = let l : m .from < b .from = ltb-true _ _ e in omega arith
+    up false true e f g = let l : m .from ≡ b .from = eqb-true _ _ f in omega arith
+    up false false e f g = let z : _≡_ {A = ℕ} 0 1 = cc in absurd (omega arith)
+
+    step : isBefore m b ≡ true → Sorted (b ∷ ms) → Sorted (m ∷ b ∷ ms)
+    step g (next f s) =
+        let l : m .from ≤ b .from = up (ltb (m .from) (b .from)) (eqb (m .from) (b .from)) refl refl g in
+        next (one l (lower (b .from) (m .from) ms l f)) (next f s)
+
+-- what of a state's rates was added before
+abbrev carried : Tally → ℕ → ℕ
+carried a s = cond (eqb s (a .from)) (a .sum) 0
+
+-- a rate of 0, or rates that add up too high, where f says what a state's rates add up to
+abbrev wrongBy : (ℕ → ℕ) → Move → Bool
+wrongBy f m = eqb (m .rate) 0 || ltb mostRate (f (m .from))
+
+any-cong : (f g : ℕ → ℕ) (k : ℕ) (ms : List Move) → AllFrom k ms → ((s : ℕ) → k ≤ s → f s ≡ g s) → any (wrongBy f) ms ≡ any (wrongBy g) ms
+unfolding any
+any-cong f g k [] none h = refl
+any-cong f g k (m ∷ ms) (one l r) h = rw (h (m .from) l, any-cong f g k ms r h)
+
+-- some line leaves s where the rates out of it are above 0
+any-here : (f : ℕ → ℕ) (s : ℕ) (ms : List Move) → 0 < ratesOut ms s → mostRate < f s → any (wrongBy f) ms ≡ true
+unfolding any ratesOut
+any-here f s [] h l = absurd (omega arith)
+any-here f s (m ∷ ms) h l = go (eqb (m .from) s) refl h (any-here f s ms)
+  where
+    go : (x : Bool) → eqb (m .from) s ≡ x → 0 < cond x (m .rate) 0 + ratesOut ms s
+        → (0 < ratesOut ms s → mostRate < f s → any (wrongBy f) ms ≡ true) → (wrongBy f m || any (wrongBy f) ms) ≡ true
+    go true e q ih =
+        let d : m .from ≡ s = eqb-true _ _ e in
+        rw (d, lt-ltb mostRate (f s) l, or-true (eqb (m .rate) 0))
+    go false e q ih = rw (ih (omega arith) l) (or-true (wrongBy f m))
+
+-- the rates out of s in a list, with what was added before
+abbrev total : Tally → List Move → ℕ → ℕ
+total a ms s = carried a s + ratesOut ms s
+
+-- a line more moves its rate from what is left to what was added
+total-next : (n : ℕ) (a : Tally) (m : Move) (ms : List Move) → a .from ≤ m .from → (s : ℕ) → m .from ≤ s
+    → total a (m ∷ ms) s ≡ total (added n a (m .from) (m .to) (m .rate)) ms s
+unfolding ratesOut
+total-next n a m ms l s k = go (eqb (m .from) s) refl
+  where
+    here : (w : Bool) → cond w (a .sum) 0 + (m .rate + ratesOut ms (m .from)) ≡ cond w (a .sum + m .rate) (m .rate) + ratesOut ms (m .from)
+    here true = omega arith
+    here false = omega arith
+
+    go : (x : Bool) → eqb (m .from) s ≡ x → total a (m ∷ ms) s ≡ total (added n a (m .from) (m .to) (m .rate)) ms s
+    go true e =
+        let q : s ≡ m .from = sym (eqb-true _ _ e) in
+        rw (q, eq-eqb (m .from) (m .from) refl) (here (eqb (m .from) (a .from)))
+    go false e =
+        let q : m .from ≡ s → ⊥ = eqb-false _ _ e in
+        rw (e, ne-eqb s (a .from) (omega arith), ne-eqb s (m .from) (omega arith)) (omega arith)
+
+-- a run that has not ended: its sum so far tells as much as the whole, as long as the lines left tell the rest
+merge : (s r : ℕ) (w : Bool) → (0 < r → mostRate < s + r → w ≡ true) → (ltb mostRate s || w) ≡ (ltb mostRate (s + r) || w)
+merge s r w h = go (ltb mostRate s) (ltb mostRate (s + r)) refl refl
+  where
+    go : (x y : Bool) → ltb mostRate s ≡ x → ltb mostRate (s + r) ≡ y → (x || w) ≡ (y || w)
+    go true true d e = refl
+    go true false d e =
+        let p : mostRate < s = ltb-true _ _ d in
+        let q : s + r ≤ mostRate = ltb-false _ _ e in
+        absurd (omega arith)
+    go false true d e =
+        let p : s ≤ mostRate = ltb-false _ _ d in
+        let q : mostRate < s + r = ltb-true _ _ e in
+        h (omega arith) q
+    go false false d e = refl
+
+group : (x y z u w : Bool) → (z || w) ≡ (u || w) → (x || y || z || w) ≡ (x || (y || u || w))
+group true y z u w h = refl
+group false true z u w h = refl
+group false false z u w h = h
+
+-- the tally of sorted moves finds the wrong rates
+wrong-is : (n : ℕ) (a : Tally) (ms : List Move) → Sorted ms → AllFrom (a .from) ms → tallied n a ms .wrong ≡ (a .wrong || any (wrongBy (total a ms)) ms)
+unfolding tallied any
+wrong-is n a [] empty f = sym (or-false (a .wrong))
+wrong-is n a (m ∷ ms) (next r s) (one l f) =
+    let b = added n a (m .from) (m .to) (m .rate) in
+    let same-left : any (wrongBy (total a (m ∷ ms))) ms ≡ any (wrongBy (total b ms)) ms =
+    any-cong (total a (m ∷ ms)) (total b ms) (m .from) ms r (total-next n a m ms l) in
+    let whole : total a (m ∷ ms) (m .from) ≡ b .sum + ratesOut ms (m .from) =
+    total-next n a m ms l (m .from) (le-refl (m .from)) ∙ rw (eq-eqb (m .from) (m .from) refl) in
+    let most : total b ms (m .from) ≡ b .sum + ratesOut ms (m .from) = rw (eq-eqb (m .from) (m .from) refl) in
+    wrong-is n b ms s r
+    ∙ rw (same-left, whole)
+    (group (a .wrong) (eqb (m .rate) 0) (ltb mostRate (b .sum)) (ltb mostRate (b .sum + ratesOut ms (m .from))) (any (wrongBy (total b ms)) ms)
+    (merge (b .sum) (ratesOut ms (m .from)) (any (wrongBy (total b ms)) ms)
+    (λ p q. any-here (total b ms) (m .from) ms p (rw most q))))
+
+all-from : (ms : List Move) → AllFrom 0 ms
+all-from [] = none
+all-from (m ∷ ms) = let p : 0 ≤ m .from = omega arith in one p (all-from ms)
+
+-- of rising moves
+pub wrong-found : (n : ℕ) (ms : List Move) → isRising ms ≡ true → tallied n begun ms .wrong ≡ hasWrongRate ms
+wrong-found n ms h =
+    wrong-is n begun ms (sorted ms h) (all-from ms) ∙ any-cong (total begun ms) (ratesOut ms) 0 ms (all-from ms) (λ s k. nothing (eqb s 0) (ratesOut ms s))
+  where
+    nothing : (x : Bool) (r : ℕ) → cond x 0 0 + r ≡ r
+    nothing true r = omega arith
+    nothing false r = omega arith

@@ -1,0 +1,5 @@
+-- What the readers of the moves text answer.
+pub mod Line
+pub mod Tally
+pub mod Facts
+pub mod Words

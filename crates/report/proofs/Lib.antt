@@ -1,0 +1,4 @@
+-- Laws that the proofs of the functions lean on.
+mod Parts
+mod Lines
+mod Fits

@@ -1,0 +1,82 @@
+-- `write_rows` meets its contract. The invariant: the lines of the first i states are written. Assumes nothing.
+use borrow.Author.Needs.{needs}
+use native.Mathlib.Omega.{arith}
+use mathlib.Core.Path.{_≡_, refl}
+use Prim.Native.Nat.{_≤_, _-_}
+use lib.ListN.{length}
+use Rattle.writer.specs.Place.{Wrote}
+use Rattle.report.specs.Listing.{rows}
+use Rattle.report.proofs.Lines.{lines-room, lines-none, lines-more, lines-all}
+use Rattle.report.proofs.listing.write_rows.Statement.{statement}
+use Rattle.report.proofs.listing.write_rows.Tie as tie
+
+abbrev Inv-loop : tie.InvT-loop
+Inv-loop out₀ at states depth lower upper verdicts next₀ i₀ out next i = (i ≤ states) × (length out ≡ length out₀) × Wrote at (rows i depth lower upper verdicts) out₀ out next
+
+abbrev μ-loop : tie.MeasureT-loop
+μ-loop out₀ at states depth lower upper verdicts next₀ i₀ out next i = states - i
+
+loop-holds : tie.Need-loop-holds Inv-loop μ-loop
+loop-holds c = (search needs, refl, lines-none _ _ _ _ _ _)
+
+mul-write-row : tie.Need-mul-write-row Inv-loop μ-loop
+mul-write-row c = search needs
+
+shared-slice-read-write-row : tie.Need-shared-slice-read-write-row Inv-loop μ-loop
+shared-slice-read-write-row c = search needs
+
+mul-write-row-2 : tie.Need-mul-write-row-2 Inv-loop μ-loop
+mul-write-row-2 c = search needs
+
+shared-slice-read-write-row-2 : tie.Need-shared-slice-read-write-row-2 Inv-loop μ-loop
+shared-slice-read-write-row-2 c = search needs
+
+shared-slice-read-from-byte : tie.Need-shared-slice-read-from-byte Inv-loop μ-loop
+shared-slice-read-from-byte c = search needs
+
+from-byte-requires : tie.Need-from-byte-requires Inv-loop μ-loop
+from-byte-requires c κs = search needs
+
+write-row-requires : tie.Need-write-row-requires Inv-loop μ-loop
+write-row-requires c κs = lines-room _ _ _ _ (c .before .before .before .before .before .before .loop .i) (c .before .before .before .before .before .before .before .before .before .before .before .args .states) _ (c .from-byte .ensures) (omega arith) (omega arith)
+    (c .before .before .before .before .before .before .loop .inv .2) (c .before .before .before .before .before .before .loop .inv .1)
+
+add-i : tie.Need-add-i Inv-loop μ-loop
+add-i c = search needs
+
+loop-less : tie.Need-loop-less Inv-loop μ-loop
+loop-less c = search needs
+
+loop-again : tie.Need-loop-again Inv-loop μ-loop
+loop-again c = (
+  search needs,
+  search needs,
+  lines-more _ _ _ _ (c .before .before .before .before .before .before .before .before .before .loop .i) (c .before .before .before .before .before .before .before .before .before .before .before .before .before .before .args .states) _ (c .before .before .before .from-byte .ensures) (omega arith) (omega arith)
+      (c .before .before .before .before .before .before .before .before .before .loop .inv .2) (c .before .before .write-row .ensures),
+)
+
+same-length : tie.Need-same-length Inv-loop μ-loop
+same-length c = search needs
+
+returns : tie.Need-returns Inv-loop μ-loop
+returns c = lines-all _ _ _ _ (c .before .loop .i) _ (omega arith) (omega arith) (c .before .loop .inv .2)
+
+pub write-rows-spec : {M : Type 1} → statement M
+write-rows-spec =
+    tie.close
+    (tie.spec
+    Inv-loop
+    μ-loop
+    loop-holds
+    mul-write-row
+    shared-slice-read-write-row
+    mul-write-row-2
+    shared-slice-read-write-row-2
+    shared-slice-read-from-byte
+    from-byte-requires
+    write-row-requires
+    add-i
+    loop-less
+    loop-again
+    same-length
+    returns)

@@ -1,0 +1,22 @@
+-- `write_field` meets its contract: the number stands behind the comma. Assumes nothing.
+use native.Mathlib.Omega.{arith}
+use Rattle.report.proofs.Parts.{field-wrote}
+use borrow.Author.Needs.{needs}
+use Rattle.report.proofs.row.write_field.Statement.{statement}
+use Rattle.report.proofs.row.write_field.Tie as tie
+
+write-byte-requires : tie.Need-write-byte-requires
+write-byte-requires c κs = search needs
+
+write-decimal-requires : tie.Need-write-decimal-requires
+write-decimal-requires c κs = search needs
+
+same-length : tie.Need-same-length
+same-length c = search needs
+
+returns : tie.Need-returns
+returns c = field-wrote _ (omega arith) (c .before .before .before .before .before .before .write-byte .ensures) (c .before .before .write-decimal .ensures)
+
+pub write-field-spec : {M : Type 1} → statement M
+write-field-spec =
+    tie.close (tie.spec write-byte-requires write-decimal-requires same-length returns)

@@ -1,0 +1,78 @@
+// The text that a program prints for the answer to a job.
+mod listing;
+mod row;
+
+use values::Answer;
+ghost use lib.ListN.{length};
+ghost use lib.Dec.{leb};
+ghost use Rattle.csl.specs.Report.{refusalText};
+ghost use Rattle.csl.specs.Finished.{acceptedWith};
+ghost use Rattle.values.specs.Paper.{answerOf};
+ghost use Rattle.report.specs.Rendering.{Rendering, Printed};
+
+// What rendering comes to.
+pub enum Rendered {
+    // The text stands in the buffer's first bytes, so many.
+    Text(usize),
+    // The buffer is too short for the text, or a slice for the states; the buffer is as it was.
+    Short,
+}
+
+// Writes the text for an answer into `out`: of an accepted job the report on its states, whose ends and verdict bytes are in the slices.
+pub fn render(
+    out: &mut [u8],
+    states: usize,
+    answer: Answer,
+    lower: &[u32],
+    upper: &[u32],
+    verdicts: &[u8],
+) -> Rendered
+    ensures { λ r. ⌜ Printed states (answerOf answer) (now (lower .entry)) (now (upper .entry)) (now (verdicts .entry)) (now (out .entry)) (now (out .exit)) r ⌝ }
+{
+    match answer {
+        Answer::Accepted(depth) => render_report(out, states, depth, lower, upper, verdicts),
+        Answer::Refused(number) => render_refusal(out, number),
+    }
+}
+
+// The text of a refusal.
+fn render_refusal(out: &mut [u8], number: u64) -> Rendered
+    ensures { λ r. ⌜ Rendering (leb (length (refusalText number)) (length (now (out .entry)))) (refusalText number) (now (out .entry)) (now (out .exit)) r ⌝ }
+{
+    if out.len() < writer::decimal_length(number) + 9 {
+        return Rendered::Short;
+    }
+    let digits = writer::write_bytes(out, 0, b"refused\n");
+    let end = writer::write_decimal(out, digits, number);
+    Rendered::Text(writer::write_byte(out, end, b'\n'))
+}
+
+// The text of a report.
+fn render_report(
+    out: &mut [u8],
+    states: usize,
+    depth: u64,
+    lower: &[u32],
+    upper: &[u32],
+    verdicts: &[u8],
+) -> Rendered
+    ensures { λ r. ⌜ Printed states (acceptedWith depth) (now (lower .entry)) (now (upper .entry)) (now (verdicts .entry)) (now (out .entry)) (now (out .exit)) r ⌝ }
+{
+    if lower.len() < states {
+        return Rendered::Short;
+    }
+    if upper.len() < states {
+        return Rendered::Short;
+    }
+    if verdicts.len() < states {
+        return Rendered::Short;
+    }
+    if out.len() < 32 {
+        return Rendered::Short;
+    }
+    if !listing::rows_fit(out.len() - 32, states, depth, lower, upper, verdicts) {
+        return Rendered::Short;
+    }
+    let first = writer::write_bytes(out, 0, b"state,lower,upper,depth,verdict\n");
+    Rendered::Text(listing::write_rows(out, first, states, depth, lower, upper, verdicts))
+}

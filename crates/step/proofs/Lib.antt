@@ -1,0 +1,4 @@
+pub mod ByteLaw
+pub mod RowLaw
+pub mod StateLaw
+pub mod StepLaw

@@ -1,0 +1,22 @@
+-- The values that the code works out are the rounded step values of the chain that the words show. Assumes nothing.
+use mathlib.Core.Path.{_≡_, refl, ap, sym, _∙_}
+use mathlib.Core.List.{List}
+use Prim.Native.Nat.{ℕ, zero, suc, _+_, _*_, _-_, _/_, _<_}
+use native.Mathlib.Omega.{arith}
+use Rattle.csl.specs.Chain.{Chain, topRate}
+use Rattle.csl.specs.Phase.{Phase, moved}
+use Rattle.bounds.specs.Ends.{one}
+use Rattle.bounds.specs.Values.{settled, Rounds}
+use Rattle.rows.specs.Words.{exitOf, topOf, flow}
+use Rattle.rows.specs.Shown.{Shows, top-shown, moved-shown}
+use Rattle.step.specs.Value.{mixed, next, valueOf}
+
+pub rounds : {c : Chain} {mv : List ℕ} {m n : ℕ} (ph : Phase) → Shows c mv m n → Rounds c ph (valueOf mv m (topOf mv m n) ph)
+unfolding valueOf next mixed
+rounds {c} {mv} {m} {n} ph p =
+    record {
+      start = λ s h. refl;
+      next = λ k s h.
+          let l : s < n = omega (arith, p .states) in
+          rw (moved-shown p (valueOf mv m (topOf mv m n) ph k) s l, top-shown p) refl;
+    }
