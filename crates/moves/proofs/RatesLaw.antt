@@ -1,10 +1,12 @@
 -- The rates of rising moves, run by run. Assumes nothing.
 use mathlib.Core.Path.{_≡_, refl, sym, ap, _∙_}
-use Prim.Native.Nat.{ℕ, zero, suc, _+_, _*_, _≤_, _<_}
+use Prim.Native.Nat.{ℕ, zero, suc, _+_, _*_, _≤_, _<_, max}
 use native.Mathlib.Omega.{arith}
 use native.Mathlib.Nat.{le-refl}
 use mathlib.Core.Bool.{Bool, true, false, cond, not, _&&_, _||_, or-false, or-true, and-eq-true-iff}
 use mathlib.Core.List.{List, [], _∷_}
+use mathlib.Core.Logic.{⊎-elim}
+use Rattle.csl.specs.Laws.Rates.{topFrom, left-or-none}
 use lib.ListN.{length}
 use lib.Dec.{leb, ltb, eqb}
 use borrow.Author.Tests.{lt-ltb, le-ltb, eq-eqb, ne-eqb, ltb-true, ltb-false, eqb-true, eqb-false}
@@ -140,6 +142,38 @@ all-from (m ∷ ms) = let p : 0 ≤ m .from = omega arith in one p (all-from ms)
 pub wrong-found : (n : ℕ) (ms : List Move) → isRising ms ≡ true → tallied n begun ms .wrong ≡ hasWrongRate ms
 wrong-found n ms h =
     wrong-is n begun ms (sorted ms h) (all-from ms) ∙ any-cong (total begun ms) (ratesOut ms) 0 ms (all-from ms) (λ s k. nothing (eqb s 0) (ratesOut ms s))
+  where
+    nothing : (x : Bool) (r : ℕ) → cond x 0 0 + r ≡ r
+    nothing true r = omega arith
+    nothing false r = omega arith
+
+-- the greatest of equal functions
+top-cong : (f g : ℕ → ℕ) (k : ℕ) (ms : List Move) → AllFrom k ms → ((s : ℕ) → k ≤ s → f s ≡ g s) → topFrom f ms ≡ topFrom g ms
+unfolding topFrom
+top-cong f g k [] none h = refl
+top-cong f g k (m ∷ ms) (one l r) h = rw (h (m .from) l, top-cong f g k ms r h)
+
+-- the tally of sorted moves finds the greatest sum
+top-is : (n : ℕ) (a : Tally) (ms : List Move) → Sorted ms → AllFrom (a .from) ms → tallied n a ms .top ≡ max (a .top) (topFrom (total a ms) ms)
+unfolding tallied topFrom
+top-is n a [] empty f = omega arith
+top-is n a (m ∷ ms) (next r s) (one l f) =
+    let b = added n a (m .from) (m .to) (m .rate) in
+    let same-left : topFrom (total a (m ∷ ms)) ms ≡ topFrom (total b ms) ms =
+    top-cong (total a (m ∷ ms)) (total b ms) (m .from) ms r (total-next n a m ms l) in
+    let whole : total a (m ∷ ms) (m .from) ≡ b .sum + ratesOut ms (m .from) =
+    total-next n a m ms l (m .from) (le-refl (m .from)) ∙ rw (eq-eqb (m .from) (m .from) refl) in
+    let most : total b ms (m .from) ≡ b .sum + ratesOut ms (m .from) = rw (eq-eqb (m .from) (m .from) refl) in
+    top-is n b ms s r
+    ∙ rw (same-left, whole)
+    (⊎-elim (λ h. omega arith) (λ h. let q : b .sum + ratesOut ms (m .from) ≤ topFrom (total b ms) ms = rw most at h in omega arith)
+    (left-or-none (total b ms) (m .from) ms))
+
+-- of rising moves
+pub top-found : (n : ℕ) (ms : List Move) → isRising ms ≡ true → tallied n begun ms .top ≡ topFrom (ratesOut ms) ms
+top-found n ms h =
+    top-is n begun ms (sorted ms h) (all-from ms)
+    ∙ omega (arith, top-cong (total begun ms) (ratesOut ms) 0 ms (all-from ms) (λ s k. nothing (eqb s 0) (ratesOut ms s)))
   where
     nothing : (x : Bool) (r : ℕ) → cond x 0 0 + r ≡ r
     nothing true r = omega arith

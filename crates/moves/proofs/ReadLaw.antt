@@ -22,7 +22,7 @@ use Rattle.moves.specs.declared.Tally.{Tally}
 use Rattle.moves.specs.declared.Tallied.{Tallied}
 use Rattle.moves.specs.declared.Tallied.the-variants.{Lines, Broken}
 
-pub unended-is : (b : Bool) → record { layout = b; head = false; count = 0; strange = false; own = false; rising = b; rates = b } ≡ cond b bare broken
+pub unended-is : (b : Bool) → record { layout = b; head = false; count = 0; strange = false; own = false; rising = b; rates = b; top = 0 } ≡ cond b bare broken
 unended-is true = refl
 unended-is false = refl
 

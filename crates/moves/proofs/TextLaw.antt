@@ -16,13 +16,14 @@ use Rattle.texts.specs.Span.{spanOf}
 use Rattle.texts.specs.Cut.{ended-cut, ended-none, first-cut, first-none, later-cut, later-none}
 use Rattle.fields.specs.Numbers.{number-below}
 use Rattle.fields.specs.Lines.{linesPass, nextLine}
+use Rattle.csl.specs.Laws.Rates.{topFrom}
 use Rattle.moves.specs.Tally.{begun, tallied, talliedFrom}
 use Rattle.moves.specs.Facts.{namesStrange, hasOwn, hasWrongRate, broken, bare, factsIn, factsOf, factsFrom}
 use Rattle.moves.specs.declared.Facts.{Facts}
 use Rattle.moves.specs.declared.Tallied.{Tallied}
 use Rattle.moves.specs.declared.Tallied.the-variants.{Lines, Broken}
 use Rattle.moves.proofs.FactsLaw.{count-is, strange-is, own-is, falls-or-rises, Small, AllSmall, none, one}
-use Rattle.moves.proofs.RatesLaw.{wrong-found}
+use Rattle.moves.proofs.RatesLaw.{wrong-found, top-found}
 
 -- numbers of a sheet are below a billion
 numbers-below : (fs : List Text) (i : ℕ) → every (isNumber sheetDigits) fs ≡ true → valueOf (getD fs i []) < 1000000000
@@ -47,6 +48,13 @@ lines-small (l ∷ ls) h =
     let p = and-eq-true-iff (moveLine l) (every moveLine ls) .0 h in
     one (line-small l (p .0)) (lines-small ls (p .1))
 
+top-is : (n : ℕ) (ms : List Move) → AllSmall ms → cond (tallied n begun ms .falling) 0 (tallied n begun ms .top) ≡ cond (isRising ms) (topFrom (ratesOut ms) ms) 0
+top-is n ms s = go (isRising ms) refl
+  where
+    go : (x : Bool) → isRising ms ≡ x → cond (tallied n begun ms .falling) 0 (tallied n begun ms .top) ≡ cond (isRising ms) (topFrom (ratesOut ms) ms) 0
+    go true e = rw (falls-or-rises n ms s, e, top-found n ms e)
+    go false e = rw (falls-or-rises n ms s, e)
+
 rates-is : (n : ℕ) (ms : List Move) → AllSmall ms → not (tallied n begun ms .falling || tallied n begun ms .wrong) ≡ (isRising ms && not (hasWrongRate ms))
 rates-is n ms s = go (isRising ms) refl
   where
@@ -58,7 +66,7 @@ facts-are : (n : ℕ) (head : Bool) (ms : List Move) → AllSmall ms → factsFr
 facts-are n head ms s =
     let c : tallied n begun ms .count ≡ length ms = omega (arith, count-is n begun ms) in
     let r : not (tallied n begun ms .falling) ≡ isRising ms = rw (falls-or-rises n ms s) (Bool·not-not (isRising ms)) in
-    rw (c, strange-is n begun ms, own-is n begun ms, rates-is n ms s, r)
+    rw (c, strange-is n begun ms, own-is n begun ms, rates-is n ms s, top-is n ms s, r)
 
 -- the text's head, and the tally of the lines after it
 module _ (n : ℕ) (text : Text) where
@@ -78,7 +86,7 @@ module _ (n : ℕ) (text : Text) where
       go false y e = refl
 
   pub facts-unended : length text ≤ spanOf lineFeed text → cond (eqb (length text) 0) bare broken ≡ factsOf n text
-  unfolding factsOf movesLayout movesHead movesOf every any isRising same
+  unfolding factsOf movesLayout movesHead movesOf every any isRising same topFrom
   facts-unended h = rw (ended-none text h, later-none text h, first-none text h) (go (eqb (length text) 0))
     where
       go : (x : Bool) → cond x bare broken ≡ cond (x && true) (factsIn n false []) broken

@@ -8,6 +8,7 @@ use lib.Dec.{leb, ltb, eqb}
 use Rattle.csl.specs.Text.{Text, any}
 use Rattle.csl.specs.Limits.{mostRate}
 use Rattle.csl.specs.Moves.{Move, movesHead, movesLayout, movesOf, isRising, ratesOut}
+use Rattle.csl.specs.Laws.Rates.{topFrom}
 use Rattle.moves.specs.declared.Facts.{Facts}
 use Rattle.moves.specs.declared.Tallied.{Tallied}
 use Rattle.moves.specs.declared.Tallied.the-variants.{Lines, Broken}
@@ -24,13 +25,13 @@ hasWrongRate ms = any (λ m. eqb (m .rate) 0 || ltb mostRate (ratesOut ms (m .fr
 
 -- the layout is broken: nothing else is said
 abbrev pub broken : Facts
-broken = record { layout = false; head = false; count = 0; strange = false; own = false; rising = false; rates = false }
+broken = record { layout = false; head = false; count = 0; strange = false; own = false; rising = false; rates = false; top = 0 }
 
 -- the empty text
 abbrev pub bare : Facts
-bare = record { layout = true; head = false; count = 0; strange = false; own = false; rising = true; rates = true }
+bare = record { layout = true; head = false; count = 0; strange = false; own = false; rising = true; rates = true; top = 0 }
 
--- the facts of moves whose layout is right; `rates` is said of rising moves, and is false of others
+-- the facts of moves whose layout is right; `rates` is said of rising moves, and is false of others; `top` likewise, and is 0 of others
 abbrev pub factsIn : ℕ → Bool → List Move → Facts
 factsIn n head ms =
     record {
@@ -41,6 +42,7 @@ factsIn n head ms =
       own = hasOwn ms;
       rising = isRising ms;
       rates = isRising ms && not (hasWrongRate ms);
+      top = cond (isRising ms) (topFrom (ratesOut ms) ms) 0;
     }
 
 unfoldable pub factsOf : ℕ → Text → Facts
@@ -58,4 +60,5 @@ factsFrom head (Lines y) =
       own = y .own;
       rising = not (y .falling);
       rates = not (y .falling || y .wrong);
+      top = cond (y .falling) 0 (y .top);
     }

@@ -1,6 +1,6 @@
 -- The tally of move lines. Assumes nothing.
 use mathlib.Core.Path.{_≡_}
-use Prim.Native.Nat.{ℕ, _+_, _*_, _≤_, _<_}
+use Prim.Native.Nat.{ℕ, _+_, _*_, _≤_, _<_, max}
 use mathlib.Core.Bool.{Bool, true, false, cond, _||_}
 use mathlib.Core.List.{List, [], _∷_, map}
 use lib.Dec.{leb, ltb, eqb}
@@ -14,7 +14,7 @@ use Rattle.moves.specs.declared.Tallied.{Tallied}
 use Rattle.moves.specs.declared.Tallied.the-variants.{Lines, Broken}
 
 abbrev pub begun : Tally
-begun = record { count = 0; strange = false; own = false; falling = false; wrong = false; next = 0; from = 0; sum = 0 }
+begun = record { count = 0; strange = false; own = false; falling = false; wrong = false; top = 0; next = 0; from = 0; sum = 0 }
 
 -- where a move stands in order: by `from`, then by `to`, each below 2 ^ 30
 abbrev pub placeIn : ℕ → ℕ → ℕ
@@ -33,6 +33,7 @@ added n a from to rate =
       own = a .own || eqb from to;
       falling = a .falling || ltb (placeIn from to) (a .next);
       wrong = a .wrong || eqb rate 0 || ltb mostRate (sumAfter a from rate);
+      top = max (a .top) (sumAfter a from rate);
       next = placeIn from to + 1;
       from = from;
       sum = sumAfter a from rate;

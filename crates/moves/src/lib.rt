@@ -1,7 +1,7 @@
 // The moves text: what its lines say, for the refusals; and its moves as words.
 use texts::Num;
 ghost use mathlib.Core.Path.{_≡_};
-ghost use Prim.Native.Nat.{_+_, _*_, _≤_, _<_};
+ghost use Prim.Native.Nat.{_+_, _*_, _≤_, _<_, max};
 ghost use mathlib.Core.Bool.{cond, true};
 ghost use lib.ListN.{length, getD};
 ghost use lib.Dec.{eqb};
@@ -49,14 +49,15 @@ pub fn move_line(t: &[u8]) -> Line
 }
 
 // What the lines so far say: how many; a state past the last; a move to its own state; a line not above the one before it; a rate of 0,
-// or a run of lines from one state whose rates add up too high. Then the least place in order that the next line may have, the state
-// of the run, and its sum.
+// or a run of lines from one state whose rates add up too high; the greatest sum of a run. Then the least place in order that the next
+// line may have, the state of the run, and its sum.
 pub struct Tally {
     pub count: usize,
     pub strange: bool,
     pub own: bool,
     pub falling: bool,
     pub wrong: bool,
+    pub top: u64,
     pub next: u64,
     pub from: u64,
     pub sum: u64,
@@ -70,6 +71,13 @@ fn run_sum(on: bool, sum: u64, rate: u64) -> u64
     if on { sum + rate } else { rate }
 }
 
+// The greater of two numbers.
+fn greater(a: u64, b: u64) -> u64
+    ensures { λ r. ⌜ r ≡ max a b ⌝ }
+{
+    if a < b { b } else { a }
+}
+
 impl Tally {
     pub fn new() -> Tally
         ensures { λ r. ⌜ r ≡ begun ⌝ }
@@ -80,6 +88,7 @@ impl Tally {
             own: false,
             falling: false,
             wrong: false,
+            top: 0,
             next: 0,
             from: 0,
             sum: 0,
@@ -99,6 +108,7 @@ impl Tally {
             own: self.own | (from == to),
             falling: self.falling | (place < self.next),
             wrong: self.wrong | (rate == 0) | (64000000 < sum),
+            top: greater(self.top, sum),
             next: place + 1,
             from: from,
             sum: sum,
@@ -137,7 +147,8 @@ fn tally_lines(s: &[u8], states: u64) -> Tallied
     Tallied::Lines(sofar)
 }
 
-// What the refusals ask of the moves text. All but `layout` speak of a text whose layout is right.
+// What the refusals ask of the moves text. All but `layout` speak of a text whose layout is right; `top` is the greatest sum of rates out of
+// one state, where the moves rise.
 pub struct Facts {
     pub layout: bool,
     pub head: bool,
@@ -146,6 +157,7 @@ pub struct Facts {
     pub own: bool,
     pub rising: bool,
     pub rates: bool,
+    pub top: u64,
 }
 
 // A text with no line feed: the empty one has its layout right.
@@ -160,7 +172,15 @@ fn unended(layout: bool) -> Facts
         own: false,
         rising: layout,
         rates: layout,
+        top: 0,
     }
+}
+
+// x unless the test holds, then 0.
+fn unless(test: bool, x: u64) -> u64
+    ensures { λ r. ⌜ r ≡ cond test 0 x ⌝ }
+{
+    if test { 0 } else { x }
 }
 
 fn facts_of(head: bool, lines: Tallied) -> Facts
@@ -176,6 +196,7 @@ fn facts_of(head: bool, lines: Tallied) -> Facts
             own: y.own,
             rising: !y.falling,
             rates: !(y.falling | y.wrong),
+            top: unless(y.falling, y.top),
         },
     }
 }

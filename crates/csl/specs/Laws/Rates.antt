@@ -103,7 +103,7 @@ top-least f b n [] w h = omega arith
 top-least f b n (m ∷ ms) w h = omega (arith, h (m .from) (w .0), top-least f b n ms (w .2) h)
 
 -- a state that no line leaves has no rate; one that a line leaves counts
-left-or-none : (f : ℕ → ℕ) (s : ℕ) (ms : List Move) → ratesOut ms s ≤ 0 ⊎ f s ≤ topFrom f ms
+pub left-or-none : (f : ℕ → ℕ) (s : ℕ) (ms : List Move) → ratesOut ms s ≤ 0 ⊎ f s ≤ topFrom f ms
 unfolding ratesOut topFrom
 left-or-none f s [] = inl (omega arith)
 left-or-none f s (m ∷ ms) = go (eqb (m .from) s) refl (left-or-none f s ms)

@@ -1,21 +1,36 @@
 use borrow.Author.Needs.{needs}
 use Rattle.moves.proofs.facts_of.Statement.{statement}
 use Rattle.moves.proofs.facts_of.Tie as tie
+use Rattle.moves.proofs.facts_of.Reads as reads
+use Rattle.moves.proofs.facts_of.Lts as lts
+use Rattle.moves.proofs.unended.Reads as unended-reads
+use Rattle.moves.proofs.unless.Reads as unless-reads
 
+-- src/lib.rt:190:28
 enum-told : tie.Need-enum-told
 enum-told c = search needs
 
+-- src/lib.rt:190:28
 unended-requires : tie.Need-unended-requires
 unended-requires c κs = search needs
 
+-- src/lib.rt:191:24
 enum-known-lines : tie.Need-enum-known-lines
 enum-known-lines c = search needs
 
+-- src/lib.rt:199:18
+unless-requires : tie.Need-unless-requires
+unless-requires c κs = search needs
+
+-- src/lib.rt:186:1
 returns : tie.Need-returns
 returns c = search needs
 
+-- src/lib.rt:186:1
 returns-2 : tie.Need-returns-2
-returns-2 c = rw (c .before .before .before .lines .given .1)
+returns-2 c = rw (c .before .before .before .before .lines .given .1, c .unless .ensures)
 
 pub facts-of-spec : {M : Type 1} → statement M
-facts-of-spec = tie.close (tie.spec enum-told unended-requires enum-known-lines returns returns-2)
+facts-of-spec =
+    tie.close
+    (tie.spec enum-told unended-requires enum-known-lines unless-requires returns returns-2)

@@ -1,24 +1,40 @@
 use borrow.Author.Needs.{needs}
 use Rattle.moves.proofs.Tally.add.Statement.{statement}
 use Rattle.moves.proofs.Tally.add.Tie as tie
+use Rattle.moves.proofs.Tally.add.Reads as reads
+use Rattle.moves.proofs.Tally.add.Lts as lts
+use Rattle.moves.proofs.greater.Reads as greater-reads
+use Rattle.moves.proofs.run_sum.Reads as run-sum-reads
 
+-- src/lib.rt:103:21
 mul-place : tie.Need-mul-place
 mul-place c = search needs
 
+-- src/lib.rt:103:21
 add-place : tie.Need-add-place
 add-place c = search needs
 
+-- src/lib.rt:104:13
 run-sum-requires : tie.Need-run-sum-requires
 run-sum-requires c κs = search needs
 
+-- src/lib.rt:106:20
 add-t10 : tie.Need-add-t10
 add-t10 c = search needs
 
-add-t8 : tie.Need-add-t8
-add-t8 c = search needs
+-- src/lib.rt:111:18
+greater-requires : tie.Need-greater-requires
+greater-requires c κs = search needs
 
+-- src/lib.rt:112:19
+add-t22 : tie.Need-add-t22
+add-t22 c = search needs
+
+-- src/lib.rt:99:5
 returns : tie.Need-returns
-returns c = rw (c .before .before .before .before .before .before .run-sum .ensures)
+returns c = rw (c .greater .ensures, c .before .before .before .before .before .before .before .run-sum .ensures)
 
 pub add-spec : {M : Type 1} → statement M
-add-spec = tie.close (tie.spec mul-place add-place run-sum-requires add-t10 add-t8 returns)
+add-spec =
+    tie.close
+    (tie.spec mul-place add-place run-sum-requires add-t10 greater-requires add-t22 returns)
