@@ -16,7 +16,7 @@ use Rattle.csl.specs.Laws.Rates.{Within, Apart, away-by-lines}
 use Rattle.packing.specs.Packed.{packedMove, to-packed, from-packed, rate-packed}
 use Rattle.rows.specs.Words.{at, fromOf, toOf, rateOf, rateBetween, exitOf, Lines}
 use Rattle.rows.specs.Shown.{Shows}
-use Rattle.sheet.specs.ByPlace.{moveAt, rate-by-place, out-by-place, within-place, rising-places}
+use Rattle.stored.specs.ByPlace.{moveAt, rate-by-place, out-by-place, within-place, rising-places}
 
 -- the first words of mv are the moves ms
 abbrev pub Holds : List ℕ → List Move → Type 0
