@@ -1,13 +1,12 @@
 -- The factor that brings a divisor to 28 bits. Assumes nothing.
 use mathlib.Core.Path.{_≡_, refl}
-use Prim.Native.Nat.{ℕ, suc, _+_, _*_, _-_, _/_, _^_, _≤_, _<_}
+use Prim.Native.Nat.{ℕ, _*_, _-_, _/_, _≤_, _<_}
 use native.Mathlib.Omega.{arith}
 use native.Mathlib.Nat.{div-le-of-le-mul}
 use mir.Val.{Fits}
 use mir.Syntax.{w64}
-use Rattle.numbers.specs.Hint.{mul-bound, eq-times, div-low}
-use Rattle.division.specs.declared.Divisor.{Divisor}
-use Rattle.division.specs.Contract.{Sound, Prepared}
+use Rattle.numbers.specs.Hint.{eq-times, div-low}
+use Rattle.division.specs.Contract.{Prepared}
 
 pub record Inv (q factor whole : ℕ) : Type 0 where
   pub some : 0 < q

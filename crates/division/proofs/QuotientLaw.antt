@@ -1,13 +1,13 @@
 -- A quotient by products: a guess from below leaves the rest of the number, and the rest's quotient is what the guess lacks. Assumes nothing.
-use mathlib.Core.Path.{_≡_, refl, sym, _∙_}
-use Prim.Native.Nat.{ℕ, suc, _+_, _*_, _-_, _/_, _%_, _^_, _≤_, _<_}
+use mathlib.Core.Path.{_≡_, sym, _∙_}
+use Prim.Native.Nat.{ℕ, suc, _+_, _*_, _-_, _/_, _^_, _≤_, _<_}
 use native.Mathlib.Omega.{arith}
-use native.Mathlib.Nat.{mul-pos, le-of-mul-le-mul-right, div-add-mod', mod-lt, lt-of-mul-lt-mul-right, div-le-self}
+use native.Mathlib.Nat.{mul-pos, le-of-mul-le-mul-right}
 use mir.Val.{Fits}
 use mir.Syntax.{w64}
-use Rattle.numbers.specs.Hint.{eq-times, le-times, mul-bound, div-is, div-low, div-high}
+use Rattle.numbers.specs.Hint.{le-times, mul-bound, div-is, div-low, div-high}
 use Rattle.division.specs.declared.Divisor.{Divisor}
-use Rattle.division.specs.Contract.{Sound, InReach}
+use Rattle.division.specs.Contract.{InReach}
 
 -- a guess: y over u, times i, over w, where i times q is at most u * w
 under : (y i q u w : ℕ) → 0 < w → i * q ≤ u * w → y / u * i / w * q ≤ y

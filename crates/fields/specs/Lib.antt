@@ -5,3 +5,4 @@ pub mod Field
 pub mod Marks
 pub mod Numbers
 pub mod Lines
+pub mod Places

@@ -1,10 +1,10 @@
 -- Marks at the start of a text. Assumes nothing.
-use mathlib.Core.Path.{_≡_, refl, sym, _∙_}
+use mathlib.Core.Path.{_≡_, refl, sym, ap, _∙_}
 use Prim.Native.Nat.{ℕ, zero, suc, _+_, _*_, _-_, _≤_, _<_}
 use native.Mathlib.Omega.{arith}
-use mathlib.Core.Bool.{Bool, true, false, cond, _&&_, _||_, and-false, and-true, false≢true}
+use mathlib.Core.Bool.{Bool, true, false, cond, _&&_, _||_, and-false, and-true, false≢true, and-eq-true-iff}
 use mathlib.Core.List.{List, [], _∷_, headD, tail}
-use lib.ListN.{length, drop}
+use lib.ListN.{length, getD, drop}
 use lib.Dec.{eqb, eqb·suc-suc}
 use borrow.Author.Tests.{eqb-true, eqb-false, ne-eqb}
 use Rattle.csl.specs.Text.{Text, same, every}
@@ -168,3 +168,66 @@ unfolding markAt
 mark-bytes end [] h = absurd (false≢true h)
 mark-bytes end (a ∷ []) h = absurd (false≢true h)
 mark-bytes end (a ∷ b ∷ t) h = omega arith
+
+-- a mark that is there
+record There (end : ℕ) (t : Text) : Type 0 where
+  stands : t ≡ getD t 0 0 ∷ end ∷ drop 2 t
+  no-feed : getD t 0 0 ≡ lineFeed → ⊥
+  no-comma : getD t 0 0 ≡ comma → ⊥
+
+there : (end : ℕ) (t : Text) → markAt end t ≡ true → There end t
+unfolding markAt
+there end [] h = absurd (false≢true h)
+there end (a ∷ []) h = absurd (false≢true h)
+there end (a ∷ b ∷ t) h =
+    let p = and-eq-true-iff (eqb b end) (eqb a 48 || eqb a 49) .0 h in
+    let q : b ≡ end = eqb-true b end (p .0) in
+    let r = range (eqb a 48) refl (p .1) in
+    record { stands = rw q; no-feed = λ e. omega arith; no-comma = λ e. omega arith }
+  where
+    range : (x : Bool) → eqb a 48 ≡ x → (x || eqb a 49) ≡ true → (48 ≤ a) × (a ≤ 49)
+    range true e h = let r : a ≡ 48 = eqb-true a 48 e in (omega arith, omega arith)
+    range false e h = let r : a ≡ 49 = eqb-true a 49 h in (omega arith, omega arith)
+
+-- the bytes of the line, and its fields: behind a comma, and at the line feed
+module _ (t : Text) where
+  comma-there : There comma t → spanOf lineFeed t ≡ 2 + spanOf lineFeed (drop 2 t)
+  comma-there h =
+      ap (spanOf lineFeed) (h .stands)
+      ∙ rw (span-byte (comma ∷ drop 2 t) (getD t 0 0) (h .no-feed), span-byte (drop 2 t) comma (omega arith)) (omega arith)
+
+  feed-there : There lineFeed t → spanOf lineFeed t ≡ 1
+  feed-there h = ap (spanOf lineFeed) (h .stands) ∙ rw (span-byte (lineFeed ∷ drop 2 t) (getD t 0 0) (h .no-feed), span-feed (drop 2 t))
+
+  comma-parts : There comma t → fieldsAt t ≡ (getD t 0 0 ∷ []) ∷ fieldsAt (drop 2 t)
+  unfolding ahead
+  comma-parts h =
+      ap fieldsAt (h .stands)
+      ∙ rw (
+        line-byte (comma ∷ drop 2 t) (getD t 0 0) (h .no-feed),
+        line-byte (drop 2 t) comma (omega arith),
+        fields-byte (getD t 0 0) (comma ∷ lineAt (drop 2 t)) (h .no-comma),
+        fields-comma (lineAt (drop 2 t)),
+      )
+
+  feed-parts : There lineFeed t → fieldsAt t ≡ (getD t 0 0 ∷ []) ∷ []
+  unfolding ahead
+  feed-parts h =
+      ap fieldsAt (h .stands)
+      ∙ rw (line-byte (lineFeed ∷ drop 2 t) (getD t 0 0) (h .no-feed), line-feed (drop 2 t), fields-byte (getD t 0 0) [] (h .no-comma), fields-nil)
+
+marks-both : (k : ℕ) (t : Text) → marksIn (suc (suc k)) t ≡ true → (markAt comma t ≡ true) × (marksIn (suc k) (drop 2 t) ≡ true)
+marks-both k t h = and-eq-true-iff (markAt comma t) (marksIn (suc k) (drop 2 t)) .0 (sym (marks-next k t) ∙ h)
+
+pub marks-bytes : (k : ℕ) (t : Text) → marksIn (suc k) t ≡ true → spanOf lineFeed t + 1 ≡ 2 * suc k
+marks-bytes zero t h = omega (arith, feed-there t (there lineFeed t (sym (marks-last t) ∙ h)))
+marks-bytes (suc k) t h =
+    let p = marks-both k t h in
+    omega (arith, comma-there t (there comma t (p .0)), marks-bytes k (drop 2 t) (p .1))
+
+-- the first of a line's marks, and the others
+pub marks-first : (k : ℕ) (t : Text) → marksIn (suc (suc k)) t ≡ true → (fieldsAt t ≡ (getD t 0 0 ∷ []) ∷ fieldsAt (drop 2 t)) × (marksIn (suc k) (drop 2 t) ≡ true)
+marks-first k t h = let p = marks-both k t h in (comma-parts t (there comma t (p .0)), p .1)
+
+pub marks-only : (t : Text) → marksIn 1 t ≡ true → fieldsAt t ≡ (getD t 0 0 ∷ []) ∷ []
+marks-only t h = feed-parts t (there lineFeed t (sym (marks-last t) ∙ h))

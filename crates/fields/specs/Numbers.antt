@@ -252,6 +252,12 @@ module _ (t : Text) (v u : ℕ) where
       let e : spanOf lineFeed (behind t) ≡ suc (spanOf lineFeed (drop u t)) = rw (behind-is comma t v u r) (span-byte (drop u t) comma (omega arith)) in
       omega (arith, run-span t, r .used)
 
+  pub comma-ended : Reading comma t v u → isEndedAt t ≡ isEndedAt (drop u t)
+  comma-ended r = run-ended t ∙ rw (behind-is comma t v u r) (ended-byte (drop u t) comma (omega arith))
+
+  pub feed-ended : Reading lineFeed t v u → isEndedAt t ≡ true
+  feed-ended r = run-ended t ∙ rw (behind-is lineFeed t v u r) (ended-feed (drop u t))
+
   pub feed-fields : Reading lineFeed t v u → fieldsAt t ≡ digitRun t ∷ []
   feed-fields r = run-fields t ∙ rw (behind-is lineFeed t v u r, line-feed (drop u t), fields-nil, append-nil (digitRun t))
 

@@ -13,6 +13,7 @@ use Rattle.texts.specs.Span.{spanOf}
 use Rattle.texts.specs.Cut.{ended-cut, later-cut, later-none}
 use Rattle.fields.specs.LineAt.{lineAt, isEndedAt}
 use Rattle.fields.specs.Lines.{linesPass, nextLine, lines-are, lines-end, pass-more, pass-not}
+use Rattle.fields.specs.Places.{drop-here, drop-none}
 use Rattle.numbers.specs.Table.{Table, table-none, table-more, table-done}
 use Rattle.packing.specs.Packed.{packed, packedMove}
 use Rattle.moves.specs.Line.{moveAt}
@@ -28,18 +29,6 @@ pub record Storing (s : Text) (w₀ w : List ℕ) (t : Text) (j : ℕ) : Type 0 
   pub passes : linesPass moveLine t ≡ true
   pub table : Table (wordOf s) w₀ w j
   pub place : j ≤ length (movesOf s)
-
--- a list from a place on
-drop-here : {A : Type 0} (l : List A) (j : ℕ) (d x : A) (xs : List A) → drop j l ≡ x ∷ xs → (j < length l) × (getD l j d ≡ x) × (drop (suc j) l ≡ xs)
-drop-here [] zero d x xs h = let z : _≡_ {A = ℕ} 0 1 = cc in absurd (omega arith)
-drop-here [] (suc j) d x xs h = let z : _≡_ {A = ℕ} 0 1 = cc in absurd (omega arith)
-drop-here (y ∷ l) zero d x xs h = (omega arith, cc, cc)
-drop-here (y ∷ l) (suc j) d x xs h = let r = drop-here l j d x xs h in (omega arith, r .1, r .2)
-
-drop-none : {A : Type 0} (l : List A) (j : ℕ) → drop j l ≡ [] → length l ≤ j
-drop-none [] j h = omega arith
-drop-none (y ∷ l) zero h = let z : _≡_ {A = ℕ} 0 1 = cc in absurd (omega arith)
-drop-none (y ∷ l) (suc j) h = omega (arith, drop-none l j h)
 
 module _ (s : Text) (w₀ : List ℕ) where
   pub start : (end : ℕ) → movesLayout s ≡ true → end ≡ spanOf lineFeed s → end < length s → Storing s w₀ w₀ (drop (end + 1) s) 0

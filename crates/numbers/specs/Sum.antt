@@ -66,3 +66,11 @@ sum-cong f g zero h = refl
 sum-cong f g (suc n) h =
     let r : (k : ℕ) → k < n → f k ≡ g k = λ k b. h k (omega arith) in
     omega (arith, sum-cong f g n r, h n (omega arith))
+
+-- each term at most c
+pub sum-most : (f : ℕ → ℕ) (c n : ℕ) → ((k : ℕ) → k < n → f k ≤ c) → sumTo f n ≤ n * c
+unfolding sumTo
+sum-most f c zero h = omega arith
+sum-most f c (suc n) h =
+    let r : (k : ℕ) → k < n → f k ≤ c = λ k l. h k (omega arith) in
+    omega (arith, sum-most f c n r, h n (omega arith))

@@ -1,7 +1,7 @@
 -- Whether a text fits, and what is left of it where it does and where it does not. Assumes nothing.
-use mathlib.Core.Path.{_≡_, refl, ap, sym, _∙_}
+use mathlib.Core.Path.{_≡_, refl, ap, _∙_}
 use mathlib.Core.Bool.{Bool, true, false}
-use mathlib.Core.List.{List, [], _∷_, _++_}
+use mathlib.Core.List.{List, [], _∷_}
 use Prim.Native.Nat.{ℕ, _+_, _-_, _≤_, _<_}
 use native.Mathlib.Omega.{arith}
 use lib.ListN.{length, length-append}
@@ -13,7 +13,6 @@ use Rattle.csl.specs.Report.{decimal, refusalText, reportText}
 use Rattle.csl.specs.Finished.{acceptedWith, answerText}
 use Rattle.writer.specs.Place.{writtenAt, Room, Wrote}
 use Rattle.writer.specs.Writing.{wrote-more}
-use Rattle.report.specs.declared.Rendered.{Rendered}
 use Rattle.report.specs.declared.Rendered.the-variants as rendered
 use Rattle.report.specs.Listing.{rows, listing, Complete}
 use Rattle.report.specs.Rendering.{fits, Rendering}

@@ -1,10 +1,9 @@
 -- The line of a state, part by part. Assumes nothing.
-use mathlib.Core.Path.{_≡_, refl, ap, sym, _∙_}
-use mathlib.Core.List.{List, [], _∷_, _++_}
-use Prim.Native.Nat.{ℕ, _+_, _≤_}
+use mathlib.Core.Path.{_≡_}
+use mathlib.Core.List.{List, [], _∷_}
+use Prim.Native.Nat.{ℕ, _+_}
 use native.Mathlib.Omega.{arith}
 use lib.ListN.{length, length-append}
-use Rattle.csl.specs.Text.{Text}
 use Rattle.csl.specs.Line.{comma, lineFeed}
 use Rattle.csl.specs.Verdicts.{Verdict}
 use Rattle.csl.specs.Report.{decimal, verdictWord, rowText}

@@ -8,7 +8,7 @@ use Rattle.csl.specs.Report.{rowsText}
 use Rattle.csl.specs.Finished.{Answer, answerText}
 use Rattle.values.specs.Byte.{verdictAt}
 
--- the number, and the verdict, of a state
+-- the number, and the verdict, of a state; a byte over 2 counts as undecided
 abbrev pub entry : List ℕ → ℕ → ℕ
 entry l s = getD l s 0
 

@@ -18,7 +18,8 @@ pub enum Rendered {
     Short,
 }
 
-// Writes the text for an answer into `out`: of an accepted job the report on its states, whose ends and verdict bytes are in the slices.
+// Writes the text for an answer into `out`: of an accepted job the report on its states, whose ends and verdict bytes are in the slices; a
+// byte over 2 counts as undecided. A refusal takes nothing of the slices.
 pub fn render(
     out: &mut [u8],
     states: usize,

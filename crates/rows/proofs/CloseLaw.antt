@@ -1,16 +1,16 @@
 -- Row ends from the numbers of words, and the greatest exit rate. Assumes nothing.
-use mathlib.Core.Path.{_≡_, refl, ap, sym, _∙_}
+use mathlib.Core.Path.{_≡_, refl, sym, _∙_}
 use mathlib.Core.List.{List}
-use Prim.Native.Nat.{ℕ, suc, _+_, _*_, _-_, _≤_, _<_, max}
+use Prim.Native.Nat.{ℕ, suc, _+_, _≤_, _<_, max}
 use native.Mathlib.Omega.{arith}
 use native.Mathlib.Numerals.{add-one}
-use lib.ListN.{length, getD, set, length-set}
+use lib.ListN.{length, set, length-set}
 use lib.Seq.{getD-set-same, getD-set-other}
 use borrow.Author.Count.{below-more}
 use mir.Val.{Fits}
 use mir.Syntax.{w64}
 use Rattle.csl.specs.Chain.{greatest}
-use Rattle.rows.specs.Words.{at, exitOf, topOf, rowOf, Lines, Rows}
+use Rattle.rows.specs.Words.{at, exitOf, topOf, rowOf, Rows}
 use Rattle.rows.specs.Sorted.{row-zero, row-next, row-most}
 use Rattle.rows.specs.Asked.{countOf, Close}
 

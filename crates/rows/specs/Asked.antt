@@ -1,7 +1,7 @@
 -- What the functions of the rows ask, and what stands while the words are counted. Assumes nothing.
 use mathlib.Core.Path.{_≡_}
 use mathlib.Core.List.{List}
-use Prim.Native.Nat.{ℕ, suc, _+_, _≤_, _<_}
+use Prim.Native.Nat.{ℕ, _+_, _≤_, _<_}
 use lib.ListN.{length}
 use Rattle.csl.specs.Chain.{sumTo}
 use Rattle.rows.specs.Words.{at, outOf, exitOf, Lines}

@@ -1,7 +1,7 @@
 -- When words show a chain, and what the chain's rates are then. Assumes nothing.
-use mathlib.Core.Path.{_≡_, refl, ap, sym, _∙_}
+use mathlib.Core.Path.{_≡_, refl, ap, _∙_}
 use mathlib.Core.List.{List}
-use Prim.Native.Nat.{ℕ, zero, suc, _+_, _*_, _-_, _≤_, _<_, max}
+use Prim.Native.Nat.{ℕ, zero, suc, _+_, _*_, _-_, _<_}
 use native.Mathlib.Omega.{arith}
 use Rattle.csl.specs.Chain.{Chain, sumTo, greatest, away, exitRate, topRate}
 use Rattle.csl.specs.Phase.{moved}

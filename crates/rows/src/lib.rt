@@ -1,10 +1,9 @@
 // The exit rates of the states, where each state's row of move words ends, and the greatest exit rate.
 ghost use mathlib.Core.Path.{_≡_};
-ghost use mathlib.Core.List.{List};
-ghost use Prim.Native.Nat.{ℕ, _+_, _≤_, max};
+ghost use Prim.Native.Nat.{_+_, _≤_, max};
 ghost use lib.ListN.{length};
 ghost use Rattle.numbers.specs.Table.{Table};
-ghost use Rattle.rows.specs.Words.{at, topOf, Lines, Rows};
+ghost use Rattle.rows.specs.Words.{topOf, Lines, Rows};
 ghost use Rattle.rows.specs.Asked.{Counted, Tally, Close};
 
 // The greater of two numbers.

@@ -1,29 +1,26 @@
 -- One state's step: a value of 1, of 0, or moved. Assumes nothing.
-use mathlib.Core.Path.{_≡_, refl, ap, sym, _∙_}
+use mathlib.Core.Path.{_≡_, refl, sym, _∙_}
 use mathlib.Core.List.{List}
 use mathlib.Core.Bool.{Bool, true, false, cond, _&&_, true≢false}
 use borrow.Author.Tests.{eqb-true, eq-eqb}
-use Prim.Native.Nat.{ℕ, suc, _+_, _*_, _-_, _/_, _^_, _≤_, _<_}
+use Prim.Native.Nat.{ℕ, suc, _+_, _*_, _-_, _/_, _≤_, _<_}
 use native.Mathlib.Omega.{arith}
-use lib.ListN.{length, getD}
+use lib.ListN.{length}
 use lib.Dec.{eqb}
 use mir.Val.{Fits}
 use mir.Syntax.{w64}
 use Rattle.csl.specs.Chain.{sumTo}
-use Rattle.csl.specs.Phase.{Phase}
 use Rattle.numbers.specs.Hint.{le-times, mul-bound}
-use Rattle.numbers.specs.Sum.{sum-mono}
 use Rattle.bounds.specs.Ends.{one}
-use Rattle.bounds.specs.Values.{settled}
 use Rattle.division.specs.declared.Divisor.{Divisor}
 use Rattle.division.specs.Contract.{Sound, InReach}
-use Rattle.rows.specs.Words.{at, exitOf, rowOf, outOf, pull, flow}
+use Rattle.rows.specs.Words.{at, pull, flow}
 use Rattle.rows.specs.Sorted.{row-sum, row-most, row-next}
 use Rattle.step.specs.declared.Sums.{Sums}
-use Rattle.step.specs.Value.{lowPhase, leftPhase, mixed, next, leftOf}
+use Rattle.step.specs.Value.{mixed, next, leftOf}
 use Rattle.step.specs.Bound.{mixed-most}
 use Rattle.step.specs.Bytes.{low-certain, left-certain, low-impossible, left-impossible, low-moves, left-moves}
-use Rattle.step.specs.Asked.{Sheet, StepAsked, StateAsked, StateDone, RowAsked, Summed}
+use Rattle.step.specs.Asked.{Sheet, StateAsked, StateDone, RowAsked, Summed}
 
 -- both of two tests
 and-left : (a b : Bool) → (a && b) ≡ true → a ≡ true

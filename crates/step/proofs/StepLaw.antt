@@ -1,16 +1,14 @@
 -- All states' steps, row after row. Assumes nothing.
-use mathlib.Core.Path.{_≡_, refl, ap, sym, _∙_}
+use mathlib.Core.Path.{_≡_, refl, sym, _∙_}
 use mathlib.Core.List.{List}
-use Prim.Native.Nat.{ℕ, suc, _+_, _*_, _-_, _/_, _^_, _≤_, _<_}
+use Prim.Native.Nat.{ℕ, suc, _+_, _*_, _≤_, _<_}
 use native.Mathlib.Omega.{arith}
 use native.Mathlib.Numerals.{add-one}
-use lib.ListN.{length, getD, set, length-set}
+use lib.ListN.{length, set, length-set}
 use lib.Seq.{getD-set-same, getD-set-other}
 use borrow.Author.Count.{below-more}
 use mir.Val.{Fits}
 use mir.Syntax.{w64}
-use Rattle.csl.specs.Phase.{Phase}
-use Rattle.bounds.specs.Ends.{one}
 use Rattle.division.specs.declared.Divisor.{Divisor}
 use Rattle.rows.specs.Words.{at, rowOf}
 use Rattle.rows.specs.Sorted.{row-zero, row-most}

@@ -2,7 +2,7 @@
 -- left, the next 2 * n the values one step on; the exit rates begin at 6 * n, the row ends at 7 * n. Assumes nothing.
 use mathlib.Core.Path.{_≡_}
 use mathlib.Core.List.{List}
-use Prim.Native.Nat.{ℕ, suc, _+_, _*_, _-_, _^_, _≤_, _<_}
+use Prim.Native.Nat.{ℕ, suc, _+_, _*_, _^_, _≤_, _<_}
 use lib.ListN.{length}
 use Rattle.csl.specs.Chain.{sumTo}
 use Rattle.bounds.specs.Ends.{one}

@@ -1,13 +1,12 @@
 -- Values of at most one stay so: what comes together is at most q times one. Assumes nothing.
-use mathlib.Core.Path.{_≡_, refl, ap, sym, _∙_}
+use mathlib.Core.Path.{_≡_, refl}
 use mathlib.Core.Bool.{Bool, true, false, cond}
 use mathlib.Core.List.{List}
-use Prim.Native.Nat.{ℕ, zero, suc, _+_, _*_, _-_, _/_, _≤_, _<_}
+use Prim.Native.Nat.{ℕ, zero, suc, _*_, _-_, _/_, _≤_, _<_}
 use native.Mathlib.Omega.{arith}
 use native.Mathlib.Nat.{sub-add-cancel, div-le-of-le-mul}
 use lib.Dec.{eqb}
-use Rattle.csl.specs.Chain.{sumTo}
-use Rattle.csl.specs.Phase.{Phase}
+use Rattle.csl.specs.Phase.{Phase, bit}
 use Rattle.numbers.specs.Hint.{le-times, eq-times}
 use Rattle.numbers.specs.Sum.{sum-le, sum-scale}
 use Rattle.bounds.specs.Ends.{one}
@@ -15,6 +14,11 @@ use Rattle.bounds.specs.Values.{settled}
 use Rattle.rows.specs.Words.{fromOf, toOf, rateOf, outOf, exitOf, pull, flow}
 use Rattle.rows.specs.Lines.{flow-cong}
 use Rattle.step.specs.Value.{mixed, next, valueOf}
+
+-- a start of until is 0 or 1
+pub bit-most : (b : Bool) → bit b ≤ 1
+bit-most true = omega arith
+bit-most false = omega arith
 
 pull-most : (t : Bool) (r x o : ℕ) → x ≤ o → cond t (r * x) 0 ≤ cond t r 0 * o
 pull-most true r x o h = omega (arith, le-times r h)

@@ -1,11 +1,10 @@
 -- Which rule a state's step follows, by its operands' verdict bytes. Assumes nothing.
-use mathlib.Core.Path.{_≡_, refl, ap, sym, _∙_}
+use mathlib.Core.Path.{_≡_, refl, sym}
 use mathlib.Core.Bool.{Bool, true, false, cond, not, _||_}
-use Prim.Native.Nat.{ℕ, _≤_}
+use Prim.Native.Nat.{ℕ}
 use native.Mathlib.Omega.{arith}
 use lib.Dec.{eqb}
-use borrow.Author.Tests.{eqb-true, eqb-false, ne-eqb}
-use Rattle.csl.specs.Phase.{bit}
+use borrow.Author.Tests.{eqb-true, ne-eqb}
 use Rattle.csl.specs.Verdicts.{Verdict, No, Yes, Undecided, asNo, asYes}
 use Rattle.bounds.specs.Ends.{one}
 use Rattle.bounds.specs.Values.{settled, verdictOf}

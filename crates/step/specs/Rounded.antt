@@ -1,13 +1,12 @@
 -- The values that the code works out are the rounded step values of the chain that the words show. Assumes nothing.
-use mathlib.Core.Path.{_≡_, refl, ap, sym, _∙_}
+use mathlib.Core.Path.{refl}
 use mathlib.Core.List.{List}
-use Prim.Native.Nat.{ℕ, zero, suc, _+_, _*_, _-_, _/_, _<_}
+use Prim.Native.Nat.{ℕ, _<_}
 use native.Mathlib.Omega.{arith}
-use Rattle.csl.specs.Chain.{Chain, topRate}
-use Rattle.csl.specs.Phase.{Phase, moved}
-use Rattle.bounds.specs.Ends.{one}
-use Rattle.bounds.specs.Values.{settled, Rounds}
-use Rattle.rows.specs.Words.{exitOf, topOf, flow}
+use Rattle.csl.specs.Chain.{Chain}
+use Rattle.csl.specs.Phase.{Phase}
+use Rattle.bounds.specs.Values.{Rounds}
+use Rattle.rows.specs.Words.{topOf}
 use Rattle.rows.specs.Shown.{Shows, top-shown, moved-shown}
 use Rattle.step.specs.Value.{mixed, next, valueOf}
 

@@ -1,6 +1,4 @@
 -- Step values, rounded down, from packed moves and the verdict bytes of the two operands. Assumes nothing.
-use mathlib.Core.Path.{_≡_}
-use mathlib.Core.Bool.{Bool, true, false}
 use mathlib.Core.List.{List}
 use Prim.Native.Nat.{ℕ, zero, suc, _+_, _*_, _-_, _/_}
 use Rattle.csl.specs.Phase.{Phase, untilPhase}

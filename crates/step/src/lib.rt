@@ -1,11 +1,14 @@
 // One step of the values of all states, both sides at once: the lower values, and the lower values of what is left of 1.
 ghost use mathlib.Core.Path.{_≡_};
 ghost use mathlib.Core.Bool.{cond, _&&_};
-ghost use Prim.Native.Nat.{_*_, _/_, _≤_};
+ghost use Prim.Native.Nat.{_*_, _/_};
 ghost use lib.Dec.{eqb};
-ghost use Rattle.division.specs.Contract.{Sound, InReach};
+ghost use Rattle.division.specs.Contract.{InReach};
 ghost use Rattle.step.specs.Asked.{RowAsked, Summed, StateAsked, StateDone, StepAsked, Stepped};
 use division::Divisor;
+
+// The value 1, in 64ths of a billionth.
+pub const ONE: u64 = 64000000000;
 
 // A number for each side.
 pub struct Sums {
@@ -69,14 +72,14 @@ pub fn state(
     let g = second[s];
     if g == 1 {
         return Sums {
-            lower: 64000000000,
+            lower: ONE,
             left: 0,
         };
     }
     if both_no(f, g) {
         return Sums {
             lower: 0,
-            left: 64000000000,
+            left: ONE,
         };
     }
     let stays = d.by - words[6 * n + s];

@@ -38,11 +38,11 @@ span-mark mark (b ∷ s) h = go (eqb b mark) refl h (span-mark mark s)
     go false e l ih = ih (omega arith)
 
 -- the parts behind the first, from its mark on
-abbrev after : ℕ → Text → List Text
+abbrev pub after : ℕ → Text → List Text
 after mark [] = []
 after mark (b ∷ t) = parts mark t
 
-first-part : (mark : ℕ) (s : Text) → parts mark s ≡ take (spanOf mark s) s ∷ after mark (drop (spanOf mark s) s)
+pub first-part : (mark : ℕ) (s : Text) → parts mark s ≡ take (spanOf mark s) s ∷ after mark (drop (spanOf mark s) s)
 unfolding parts spanOf ahead
 first-part mark [] = refl
 first-part mark (b ∷ s) = go (eqb b mark) (first-part mark s)

@@ -1,19 +1,17 @@
 -- The weights below the middle: each turn of the loop may work out the one before. Assumes nothing.
-use mathlib.Core.Path.{_≡_, refl, ap, sym, _∙_}
+use mathlib.Core.Path.{_≡_, refl, sym, _∙_}
 use mathlib.Core.List.{List}
 use mathlib.Core.Logic.{⊎-elim}
-use Prim.Native.Nat.{ℕ, zero, suc, _+_, _*_, _-_, _/_, _^_, _≤_, _<_}
+use Prim.Native.Nat.{ℕ, suc, _+_, _*_, _-_, _/_, _≤_, _<_}
 use native.Mathlib.Omega.{arith}
-use native.Mathlib.Nat.{eq-or-lt-of-le, ne-of-gt, sub-self}
+use native.Mathlib.Nat.{eq-or-lt-of-le, sub-self}
 use lib.ListN.{length, getD, set, length-set}
 use lib.Seq.{getD-set-same, getD-set-other}
 use borrow.Author.Tests.{lt-ltb, le-ltb}
-use mir.Val.{Fits}
-use mir.Syntax.{w64}
-use Rattle.numbers.specs.Hint.{mul-bound, le-times}
+use Rattle.numbers.specs.Hint.{le-times}
 use Rattle.numbers.specs.Table.{Table}
 use Rattle.bounds.specs.Ladder.{ladder}
-use Rattle.bounds.specs.Weight.{peak, up, down, low, Middle, low-most}
+use Rattle.bounds.specs.Weight.{down, low, low-most}
 use Rattle.bounds.specs.Ends.{low-peak}
 use Rattle.weights.specs.Asked.{Half, Fall}
 use Rattle.weights.proofs.Span.{Span, span-more}

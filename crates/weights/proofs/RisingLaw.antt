@@ -1,17 +1,15 @@
 -- The weights above the middle: each turn of the loop may work out the next. Assumes nothing.
-use mathlib.Core.Path.{_≡_, refl, ap, sym, _∙_}
+use mathlib.Core.Path.{_≡_, refl}
 use mathlib.Core.List.{List}
-use Prim.Native.Nat.{ℕ, zero, suc, _+_, _*_, _-_, _/_, _^_, _≤_, _<_}
+use Prim.Native.Nat.{ℕ, suc, _+_, _*_, _/_, _^_, _≤_, _<_}
 use native.Mathlib.Omega.{arith}
 use native.Mathlib.Numerals.{add-one}
-use lib.ListN.{length, getD, set, length-set}
-use mir.Val.{Fits}
-use mir.Syntax.{w64}
+use lib.ListN.{length, getD, set}
 use Rattle.numbers.specs.Hint.{mul-bound, le-times}
 use Rattle.numbers.specs.Table.{Table, table-more}
-use Rattle.bounds.specs.Weight.{peak, low, Middle, low-most}
+use Rattle.bounds.specs.Weight.{low, low-most}
 use Rattle.bounds.specs.Width.{low-next}
-use Rattle.weights.specs.Asked.{Half, Rest, Rise}
+use Rattle.weights.specs.Asked.{Rest, Rise}
 
 pub record Inv (w₀ w : List ℕ) (m d a b k : ℕ) : Type 0 where
   pub asked : Rest w₀ m d a b

@@ -1,22 +1,14 @@
 -- The total: it fits, since each of at most 1025 terms is below 2 ^ 41. Assumes nothing.
-use mathlib.Core.Path.{_≡_, refl, ap, sym, _∙_}
+use mathlib.Core.Path.{_≡_}
 use mathlib.Core.List.{List}
-use Prim.Native.Nat.{ℕ, zero, suc, _+_, _*_, _-_, _/_, _^_, _≤_, _<_}
+use Prim.Native.Nat.{ℕ, _+_, _-_, _≤_, _<_}
 use native.Mathlib.Omega.{arith}
 use lib.ListN.{length, getD}
 use mir.Val.{Fits}
 use mir.Syntax.{w64}
-use Rattle.numbers.specs.Hint.{mul-bound, le-times}
 use Rattle.csl.specs.Chain.{sumTo}
-use Rattle.numbers.specs.Sum.{sum-zero, sum-next}
+use Rattle.numbers.specs.Sum.{sum-zero, sum-next, sum-most}
 use Rattle.weights.specs.Asked.{weighed, Total}
-
-pub sum-most : (f : ℕ → ℕ) (c n : ℕ) → ((k : ℕ) → k < n → f k ≤ c) → sumTo f n ≤ n * c
-unfolding sumTo
-sum-most f c zero h = omega arith
-sum-most f c (suc n) h =
-    let r : (k : ℕ) → k < n → f k ≤ c = λ k l. h k (omega arith) in
-    omega (arith, sum-most f c n r, h n (omega arith))
 
 pub record Inv (w : List ℕ) (m d t k : ℕ) : Type 0 where
   pub asked : Total w m d

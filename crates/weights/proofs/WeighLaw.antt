@@ -1,16 +1,15 @@
 -- The three parts of the table of weights, one after the other. Assumes nothing.
-use mathlib.Core.Path.{_≡_, refl, ap, sym, _∙_}
+use mathlib.Core.Path.{_≡_, refl, _∙_}
 use mathlib.Core.List.{List}
-use Prim.Native.Nat.{ℕ, zero, suc, _+_, _*_, _-_, _/_, _^_, _≤_, _<_}
+use Prim.Native.Nat.{ℕ, _+_}
 use native.Mathlib.Omega.{arith}
 use native.Mathlib.Numerals.{add-one}
-use lib.ListN.{length, getD}
 use Rattle.csl.specs.Chain.{sumTo}
 use Rattle.numbers.specs.Sum.{sum-cong}
 use Rattle.numbers.specs.Table.{Table}
-use Rattle.bounds.specs.Weight.{peak, low, apart, low-most}
+use Rattle.bounds.specs.Weight.{low, apart, low-most}
 use Rattle.bounds.specs.Ends.{total}
-use Rattle.weights.specs.Asked.{Half, Rest, weighed, Total, Weigh}
+use Rattle.weights.specs.Asked.{Rest, weighed, Total, Weigh}
 
 module _ {e w : List ℕ} {m d a b : ℕ} (p : Weigh e m d a b) (t : Table (low a b m) e w (m + 1)) where
   pub may-rise : Rest w m d a b

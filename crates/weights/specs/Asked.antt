@@ -1,20 +1,21 @@
 -- What the functions of the weights ask. The load is a / b, its whole part m, the depth d. Assumes nothing.
 use mathlib.Core.Path.{_≡_}
 use mathlib.Core.List.{List}
-use Prim.Native.Nat.{ℕ, suc, _+_, _*_, _-_, _/_, _^_, _≤_, _<_}
+use Prim.Native.Nat.{ℕ, _+_, _*_, _/_, _^_, _≤_, _<_}
 use lib.ListN.{length, getD}
-use Rattle.bounds.specs.Weight.{Middle, low, apart}
+use Rattle.bounds.specs.Weight.{peak, Middle, low, apart}
+use Rattle.bounds.specs.Ends.{one}
 
 -- a weight at or before the largest one: k * b is at most a
 pub record Fall (w k a b : ℕ) : Type 0 where
-  pub weight : w ≤ 1099511627776
+  pub weight : w ≤ peak
   pub some : 0 < a
   pub load : a < 2 ^ 36
   pub falls : k * b ≤ a
 
 -- a weight at or after the largest one: a is at most k * b
 pub record Rise (w k a b : ℕ) : Type 0 where
-  pub weight : w ≤ 1099511627776
+  pub weight : w ≤ peak
   pub some : 0 < a
   pub load : a < 2 ^ 36
   pub divisor : k * b < 2 ^ 37
@@ -22,8 +23,8 @@ pub record Rise (w k a b : ℕ) : Type 0 where
 
 -- a weight times a value, to be added to a sum
 pub record Adds (sum w v : ℕ) : Type 0 where
-  pub weight : w ≤ 1099511627776
-  pub value : v ≤ 64000000000
+  pub weight : w ≤ peak
+  pub value : v ≤ one
   pub fits : sum + w * v / 4194304 < 2 ^ 64
 
 -- a sum of such products, to be put over the total
@@ -56,7 +57,7 @@ pub record Total (w : List ℕ) (m d : ℕ) : Type 0 where
   pub deep : m ≤ d
   pub long : d < length w
   pub limit : d < 1024
-  pub light : (k : ℕ) → k < d + 1 → getD w k 0 ≤ 1099511627776
+  pub light : (k : ℕ) → k < d + 1 → getD w k 0 ≤ peak
 
 -- the whole table of weights and its total
 pub record Weigh (w : List ℕ) (m d a b : ℕ) : Type 0 where

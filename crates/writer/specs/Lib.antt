@@ -2,3 +2,4 @@
 pub mod Place
 pub mod Writing
 pub mod Decimal
+pub mod Value

@@ -1,10 +1,8 @@
-use Prim.Native.Nat.{_-_, _+_, _*_}
+use Prim.Native.Nat.{_-_}
 use borrow.Author.Needs.{needs}
 use Rattle.rows.proofs.ClearLaw.{Inv, clear-laws}
 use Rattle.rows.proofs.clear.Statement.{statement}
 use Rattle.rows.proofs.clear.Tie as tie
-use Rattle.rows.proofs.clear.Reads as reads
-use Rattle.rows.proofs.clear.Lts as lts
 
 abbrev Inv-loop : tie.InvT-loop
 Inv-loop rows₀ n end i₀ rows i = Inv rows₀ rows end i
@@ -12,39 +10,30 @@ Inv-loop rows₀ n end i₀ rows i = Inv rows₀ rows end i
 abbrev μ-loop : tie.MeasureT-loop
 μ-loop rows₀ n end i₀ rows i = end - i
 
--- src/lib.rt:22:15
 add-end : tie.Need-add-end Inv-loop μ-loop
 add-end c = search (needs, clear-laws)
 
--- src/lib.rt:24:5
 loop-holds : tie.Need-loop-holds Inv-loop μ-loop
 loop-holds c = search (needs, clear-laws)
 
--- src/lib.rt:25:9
 mul-rows : tie.Need-mul-rows Inv-loop μ-loop
 mul-rows c = search (needs, clear-laws)
 
--- src/lib.rt:25:9
 slice-write-rows : tie.Need-slice-write-rows Inv-loop μ-loop
 slice-write-rows c = search (needs, clear-laws)
 
--- src/lib.rt:26:9
 add-i : tie.Need-add-i Inv-loop μ-loop
 add-i c = search (needs, clear-laws)
 
--- src/lib.rt:24:5
 loop-less : tie.Need-loop-less Inv-loop μ-loop
 loop-less c = search (needs, clear-laws)
 
--- src/lib.rt:24:5
 loop-again : tie.Need-loop-again Inv-loop μ-loop
 loop-again c = search (needs, clear-laws)
 
--- src/lib.rt:18:1
 same-length : tie.Need-same-length Inv-loop μ-loop
 same-length c = search (needs, clear-laws)
 
--- src/lib.rt:18:1
 returns : tie.Need-returns Inv-loop μ-loop
 returns c = search (needs, clear-laws)
 

@@ -1,11 +1,8 @@
-use Prim.Native.Nat.{_-_, _+_, _*_}
+use Prim.Native.Nat.{_-_}
 use borrow.Author.Needs.{needs}
 use Rattle.rows.proofs.CloseLaw.{Inv, close-laws}
 use Rattle.rows.proofs.close.Statement.{statement}
 use Rattle.rows.proofs.close.Tie as tie
-use Rattle.rows.proofs.close.Reads as reads
-use Rattle.rows.proofs.close.Lts as lts
-use Rattle.rows.proofs.greater.Reads as greater-reads
 
 abbrev Inv-loop : tie.InvT-loop
 Inv-loop moves rows₀ n end₀ q₀ s₀ rows end q s = Inv moves rows₀ rows n end q s
@@ -13,67 +10,51 @@ Inv-loop moves rows₀ n end₀ q₀ s₀ rows end q s = Inv moves rows₀ rows 
 abbrev μ-loop : tie.MeasureT-loop
 μ-loop moves rows₀ n end₀ q₀ s₀ rows end q s = n - s
 
--- src/lib.rt:53:5
 loop-holds : tie.Need-loop-holds Inv-loop μ-loop
 loop-holds c = search (needs, close-laws)
 
--- src/lib.rt:54:21
 add-end : tie.Need-add-end Inv-loop μ-loop
 add-end c = search (needs, close-laws)
 
--- src/lib.rt:54:16
 mul-end : tie.Need-mul-end Inv-loop μ-loop
 mul-end c = search (needs, close-laws)
 
--- src/lib.rt:54:16
 slice-read-end : tie.Need-slice-read-end Inv-loop μ-loop
 slice-read-end c = search (needs, close-laws)
 
--- src/lib.rt:54:9
 add-end-2 : tie.Need-add-end-2 Inv-loop μ-loop
 add-end-2 c = search (needs, close-laws)
 
--- src/lib.rt:55:14
 add-rows : tie.Need-add-rows Inv-loop μ-loop
 add-rows c = search (needs, close-laws)
 
--- src/lib.rt:55:9
 mul-rows : tie.Need-mul-rows Inv-loop μ-loop
 mul-rows c = search (needs, close-laws)
 
--- src/lib.rt:55:9
 slice-write-rows : tie.Need-slice-write-rows Inv-loop μ-loop
 slice-write-rows c = search (needs, close-laws)
 
--- src/lib.rt:56:24
 mul-greater : tie.Need-mul-greater Inv-loop μ-loop
 mul-greater c = search (needs, close-laws)
 
--- src/lib.rt:56:24
 slice-read-greater : tie.Need-slice-read-greater Inv-loop μ-loop
 slice-read-greater c = search (needs, close-laws)
 
--- src/lib.rt:56:9
 greater-requires : tie.Need-greater-requires Inv-loop μ-loop
 greater-requires c κs = search (needs, close-laws)
 
--- src/lib.rt:57:9
 add-s : tie.Need-add-s Inv-loop μ-loop
 add-s c = search (needs, close-laws)
 
--- src/lib.rt:53:5
 loop-less : tie.Need-loop-less Inv-loop μ-loop
 loop-less c = search (needs, close-laws)
 
--- src/lib.rt:53:5
 loop-again : tie.Need-loop-again Inv-loop μ-loop
 loop-again c = search (needs, close-laws)
 
--- src/lib.rt:46:1
 same-length : tie.Need-same-length Inv-loop μ-loop
 same-length c = search (needs, close-laws)
 
--- src/lib.rt:46:1
 returns : tie.Need-returns Inv-loop μ-loop
 returns c = search (needs, close-laws)
 

@@ -1,13 +1,9 @@
 use lib.ListN.{length}
-use Prim.Native.Nat.{_-_, _+_, _*_}
+use Prim.Native.Nat.{_-_}
 use borrow.Author.Needs.{needs}
 use Rattle.rows.proofs.TallyLaw.{Inv, tally-laws}
 use Rattle.rows.proofs.tally.Statement.{statement}
 use Rattle.rows.proofs.tally.Tie as tie
-use Rattle.rows.proofs.tally.Reads as reads
-use Rattle.rows.proofs.tally.Lts as lts
-use Rattle.packing.proofs.from_of.Reads as from-of-reads
-use Rattle.packing.proofs.rate_of.Reads as rate-of-reads
 
 abbrev Inv-loop : tie.InvT-loop
 Inv-loop moves rows₀ n j₀ rows j = Inv moves rows₀ rows n j
@@ -15,91 +11,69 @@ Inv-loop moves rows₀ n j₀ rows j = Inv moves rows₀ rows n j
 abbrev μ-loop : tie.MeasureT-loop
 μ-loop moves rows₀ n j₀ rows j = length moves - j
 
--- src/lib.rt:36:5
 loop-holds : tie.Need-loop-holds Inv-loop μ-loop
 loop-holds c = search (needs, tally-laws)
 
--- src/lib.rt:37:20
 mul-word : tie.Need-mul-word Inv-loop μ-loop
 mul-word c = search (needs, tally-laws)
 
--- src/lib.rt:37:20
 shared-slice-read-word : tie.Need-shared-slice-read-word Inv-loop μ-loop
 shared-slice-read-word c = search (needs, tally-laws)
 
--- src/lib.rt:38:13
 from-of-requires : tie.Need-from-of-requires Inv-loop μ-loop
 from-of-requires c κs = search (needs, tally-laws)
 
--- src/lib.rt:39:19
 mul-rows : tie.Need-mul-rows Inv-loop μ-loop
 mul-rows c = search (needs, tally-laws)
 
--- src/lib.rt:39:19
 slice-read-rows : tie.Need-slice-read-rows Inv-loop μ-loop
 slice-read-rows c = search (needs, tally-laws)
 
--- src/lib.rt:39:29
 rate-of-requires : tie.Need-rate-of-requires Inv-loop μ-loop
 rate-of-requires c κs = search (needs, tally-laws)
 
--- src/lib.rt:39:19
 add-rows : tie.Need-add-rows Inv-loop μ-loop
 add-rows c = search (needs, tally-laws)
 
--- src/lib.rt:39:9
 mul-rows-2 : tie.Need-mul-rows-2 Inv-loop μ-loop
 mul-rows-2 c = search (needs, tally-laws)
 
--- src/lib.rt:39:9
 slice-write-rows : tie.Need-slice-write-rows Inv-loop μ-loop
 slice-write-rows c = search (needs, tally-laws)
 
--- src/lib.rt:40:28
 add-rows-2 : tie.Need-add-rows-2 Inv-loop μ-loop
 add-rows-2 c = search (needs, tally-laws)
 
--- src/lib.rt:40:23
 mul-rows-3 : tie.Need-mul-rows-3 Inv-loop μ-loop
 mul-rows-3 c = search (needs, tally-laws)
 
--- src/lib.rt:40:23
 slice-read-rows-2 : tie.Need-slice-read-rows-2 Inv-loop μ-loop
 slice-read-rows-2 c = search (needs, tally-laws)
 
--- src/lib.rt:40:23
 add-rows-3 : tie.Need-add-rows-3 Inv-loop μ-loop
 add-rows-3 c = search (needs, tally-laws)
 
--- src/lib.rt:40:14
 add-rows-4 : tie.Need-add-rows-4 Inv-loop μ-loop
 add-rows-4 c = search (needs, tally-laws)
 
--- src/lib.rt:40:9
 mul-rows-4 : tie.Need-mul-rows-4 Inv-loop μ-loop
 mul-rows-4 c = search (needs, tally-laws)
 
--- src/lib.rt:40:9
 slice-write-rows-2 : tie.Need-slice-write-rows-2 Inv-loop μ-loop
 slice-write-rows-2 c = search (needs, tally-laws)
 
--- src/lib.rt:41:9
 add-j : tie.Need-add-j Inv-loop μ-loop
 add-j c = search (needs, tally-laws)
 
--- src/lib.rt:36:5
 loop-less : tie.Need-loop-less Inv-loop μ-loop
 loop-less c = search (needs, tally-laws)
 
--- src/lib.rt:36:5
 loop-again : tie.Need-loop-again Inv-loop μ-loop
 loop-again c = search (needs, tally-laws)
 
--- src/lib.rt:31:1
 same-length : tie.Need-same-length Inv-loop μ-loop
 same-length c = search (needs, tally-laws)
 
--- src/lib.rt:31:1
 returns : tie.Need-returns Inv-loop μ-loop
 returns c = search (needs, tally-laws)
 

@@ -2,14 +2,10 @@ use borrow.Author.Needs.{needs}
 use Rattle.step.proofs.ByteLaw.{byte-laws}
 use Rattle.step.proofs.both_no.Statement.{statement}
 use Rattle.step.proofs.both_no.Tie as tie
-use Rattle.step.proofs.both_no.Reads as reads
-use Rattle.step.proofs.both_no.Lts as lts
 
--- src/lib.rt:39:1
 returns : tie.Need-returns
 returns c = search (needs, byte-laws)
 
--- src/lib.rt:39:1
 returns-2 : tie.Need-returns-2
 returns-2 c = search (needs, byte-laws)
 

@@ -1,13 +1,9 @@
-use Prim.Native.Nat.{_-_, _+_, _*_}
+use Prim.Native.Nat.{_-_}
 use borrow.Author.Needs.{needs}
 use Rattle.step.proofs.RowLaw.{Inv, row-laws, lower-fits, left-fits}
 use native.Mathlib.Omega.{arith}
 use Rattle.step.proofs.row.Statement.{statement}
 use Rattle.step.proofs.row.Tie as tie
-use Rattle.step.proofs.row.Reads as reads
-use Rattle.step.proofs.row.Lts as lts
-use Rattle.packing.proofs.rate_of.Reads as rate-of-reads
-use Rattle.packing.proofs.to_of.Reads as to-of-reads
 
 abbrev Inv-loop : tie.InvT-loop
 Inv-loop moves words n begin end lower₀ left₀ j₀ lower left j = Inv moves words n begin end (record { lower = lower₀; left = left₀ }) lower left j
@@ -15,75 +11,57 @@ Inv-loop moves words n begin end lower₀ left₀ j₀ lower left j = Inv moves 
 abbrev μ-loop : tie.MeasureT-loop
 μ-loop moves words n begin end lower₀ left₀ j₀ lower left j = end - j
 
--- src/lib.rt:24:5
 loop-holds : tie.Need-loop-holds Inv-loop μ-loop
 loop-holds c = search (needs, row-laws)
 
--- src/lib.rt:25:20
 mul-word : tie.Need-mul-word Inv-loop μ-loop
 mul-word c = search (needs, row-laws)
 
--- src/lib.rt:25:20
 shared-slice-read-word : tie.Need-shared-slice-read-word Inv-loop μ-loop
 shared-slice-read-word c = search (needs, row-laws)
 
--- src/lib.rt:26:13
 rate-of-requires : tie.Need-rate-of-requires Inv-loop μ-loop
 rate-of-requires c κs = search (needs, row-laws)
 
--- src/lib.rt:27:13
 to-of-requires : tie.Need-to-of-requires Inv-loop μ-loop
 to-of-requires c κs = search (needs, row-laws)
 
--- src/lib.rt:28:25
 mul-lower : tie.Need-mul-lower Inv-loop μ-loop
 mul-lower c = search (needs, row-laws)
 
--- src/lib.rt:28:25
 shared-slice-read-lower : tie.Need-shared-slice-read-lower Inv-loop μ-loop
 shared-slice-read-lower c = search (needs, row-laws)
 
--- src/lib.rt:28:18
 mul-lower-2 : tie.Need-mul-lower-2 Inv-loop μ-loop
 mul-lower-2 c = search (needs, row-laws)
 
--- src/lib.rt:28:9
 add-lower : tie.Need-add-lower Inv-loop μ-loop
 add-lower c = search (lower-fits, arith)
 
--- src/lib.rt:29:30
 add-left : tie.Need-add-left Inv-loop μ-loop
 add-left c = search (needs, row-laws)
 
--- src/lib.rt:29:24
 mul-left : tie.Need-mul-left Inv-loop μ-loop
 mul-left c = search (needs, row-laws)
 
--- src/lib.rt:29:24
 shared-slice-read-left : tie.Need-shared-slice-read-left Inv-loop μ-loop
 shared-slice-read-left c = search (needs, row-laws)
 
--- src/lib.rt:29:17
 mul-left-2 : tie.Need-mul-left-2 Inv-loop μ-loop
 mul-left-2 c = search (needs, row-laws)
 
--- src/lib.rt:29:9
 add-left-2 : tie.Need-add-left-2 Inv-loop μ-loop
 add-left-2 c = search (left-fits, arith)
 
--- src/lib.rt:30:9
 add-j : tie.Need-add-j Inv-loop μ-loop
 add-j c = search (needs, row-laws)
 
--- src/lib.rt:24:5
 loop-less : tie.Need-loop-less Inv-loop μ-loop
 loop-less c = search (needs, row-laws)
 
--- src/lib.rt:24:5
 loop-again : tie.Need-loop-again Inv-loop μ-loop
 loop-again c = search (needs, row-laws)
 
--- src/lib.rt:17:1
 returns : tie.Need-returns Inv-loop μ-loop
 returns c = search (needs, row-laws)
 

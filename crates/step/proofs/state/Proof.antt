@@ -2,93 +2,67 @@ use Rattle.step.proofs.StateLaw.{state-laws}
 use borrow.Author.Needs.{needs}
 use Rattle.step.proofs.state.Statement.{statement}
 use Rattle.step.proofs.state.Tie as tie
-use Rattle.step.proofs.state.Reads as reads
-use Rattle.step.proofs.state.Lts as lts
-use Rattle.step.proofs.both_no.Reads as both-no-reads
-use Rattle.step.proofs.moved_if.Reads as moved-if-reads
-use Rattle.step.proofs.row.Reads as row-reads
 
--- src/lib.rt:68:13
 shared-slice-read-f : tie.Need-shared-slice-read-f
 shared-slice-read-f c = search (needs, state-laws)
 
--- src/lib.rt:69:13
 shared-slice-read-g : tie.Need-shared-slice-read-g
 shared-slice-read-g c = search (needs, state-laws)
 
--- src/lib.rt:71:9
 returns : tie.Need-returns
 returns c = search (needs, state-laws)
 
--- src/lib.rt:76:8
 both-no-requires : tie.Need-both-no-requires
 both-no-requires c κs = search (needs, state-laws)
 
--- src/lib.rt:77:9
 returns-2 : tie.Need-returns-2
 returns-2 c = search (needs, state-laws)
 
--- src/lib.rt:82:30
 mul-stays : tie.Need-mul-stays
 mul-stays c = search (needs, state-laws)
 
--- src/lib.rt:82:30
 add-stays : tie.Need-add-stays
 add-stays c = search (needs, state-laws)
 
--- src/lib.rt:82:24
 mul-stays-2 : tie.Need-mul-stays-2
 mul-stays-2 c = search (needs, state-laws)
 
--- src/lib.rt:82:24
 shared-slice-read-stays : tie.Need-shared-slice-read-stays
 shared-slice-read-stays c = search (needs, state-laws)
 
--- src/lib.rt:82:17
 sub-stays : tie.Need-sub-stays
 sub-stays c = search (needs, state-laws)
 
--- src/lib.rt:84:24
 mul-t20 : tie.Need-mul-t20
 mul-t20 c = search (needs, state-laws)
 
--- src/lib.rt:84:24
 shared-slice-read-t24 : tie.Need-shared-slice-read-t24
 shared-slice-read-t24 c = search (needs, state-laws)
 
--- src/lib.rt:84:16
 mul-t26 : tie.Need-mul-t26
 mul-t26 c = search (needs, state-laws)
 
--- src/lib.rt:85:29
 add-t22 : tie.Need-add-t22
 add-t22 c = search (needs, state-laws)
 
--- src/lib.rt:85:23
 mul-t21 : tie.Need-mul-t21
 mul-t21 c = search (needs, state-laws)
 
--- src/lib.rt:85:23
 shared-slice-read-t28 : tie.Need-shared-slice-read-t28
 shared-slice-read-t28 c = search (needs, state-laws)
 
--- src/lib.rt:85:15
 mul-t29 : tie.Need-mul-t29
 mul-t29 c = search (needs, state-laws)
 
--- src/lib.rt:87:9
 row-requires : tie.Need-row-requires
 row-requires c κs = search (needs, state-laws)
 
--- src/lib.rt:89:16
 moved-if-requires : tie.Need-moved-if-requires
 moved-if-requires c κs = search (needs, state-laws)
 
--- src/lib.rt:90:15
 moved-if-requires-2 : tie.Need-moved-if-requires-2
 moved-if-requires-2 c κs = search (needs, state-laws)
 
--- src/lib.rt:54:1
 returns-3 : tie.Need-returns-3
 returns-3 c = search (needs, state-laws)
 

@@ -1,11 +1,8 @@
-use Prim.Native.Nat.{_-_, _+_, _*_}
+use Prim.Native.Nat.{_-_}
 use borrow.Author.Needs.{needs}
 use Rattle.step.proofs.StepLaw.{Inv, step-laws}
 use Rattle.step.proofs.step.Statement.{statement}
 use Rattle.step.proofs.step.Tie as tie
-use Rattle.step.proofs.step.Reads as reads
-use Rattle.step.proofs.step.Lts as lts
-use Rattle.step.proofs.state.Reads as state-reads
 
 abbrev Inv-loop : tie.InvT-loop
 Inv-loop moves words₀ first second d n begin₀ s₀ words begin s = Inv moves words₀ words first second d n begin s
@@ -13,79 +10,60 @@ Inv-loop moves words₀ first second d n begin₀ s₀ words begin s = Inv moves
 abbrev μ-loop : tie.MeasureT-loop
 μ-loop moves words₀ first second d n begin₀ s₀ words begin s = n - s
 
--- src/lib.rt:101:5
 loop-holds : tie.Need-loop-holds Inv-loop μ-loop
 loop-holds c = search (needs, step-laws)
 
--- src/lib.rt:102:25
 mul-end : tie.Need-mul-end Inv-loop μ-loop
 mul-end c = search (needs, step-laws)
 
--- src/lib.rt:102:25
 add-end : tie.Need-add-end Inv-loop μ-loop
 add-end c = search (needs, step-laws)
 
--- src/lib.rt:102:19
 mul-end-2 : tie.Need-mul-end-2 Inv-loop μ-loop
 mul-end-2 c = search (needs, step-laws)
 
--- src/lib.rt:102:19
 slice-read-end : tie.Need-slice-read-end Inv-loop μ-loop
 slice-read-end c = search (needs, step-laws)
 
--- src/lib.rt:103:13
 state-requires : tie.Need-state-requires Inv-loop μ-loop
 state-requires c κs = search (needs, step-laws)
 
--- src/lib.rt:104:15
 mul-words : tie.Need-mul-words Inv-loop μ-loop
 mul-words c = search (needs, step-laws)
 
--- src/lib.rt:104:15
 add-words : tie.Need-add-words Inv-loop μ-loop
 add-words c = search (needs, step-laws)
 
--- src/lib.rt:104:9
 mul-words-2 : tie.Need-mul-words-2 Inv-loop μ-loop
 mul-words-2 c = search (needs, step-laws)
 
--- src/lib.rt:104:9
 slice-write-words : tie.Need-slice-write-words Inv-loop μ-loop
 slice-write-words c = search (needs, step-laws)
 
--- src/lib.rt:105:15
 mul-words-3 : tie.Need-mul-words-3 Inv-loop μ-loop
 mul-words-3 c = search (needs, step-laws)
 
--- src/lib.rt:105:15
 add-words-2 : tie.Need-add-words-2 Inv-loop μ-loop
 add-words-2 c = search (needs, step-laws)
 
--- src/lib.rt:105:9
 mul-words-4 : tie.Need-mul-words-4 Inv-loop μ-loop
 mul-words-4 c = search (needs, step-laws)
 
--- src/lib.rt:105:9
 slice-write-words-2 : tie.Need-slice-write-words-2 Inv-loop μ-loop
 slice-write-words-2 c = search (needs, step-laws)
 
--- src/lib.rt:107:9
 add-s : tie.Need-add-s Inv-loop μ-loop
 add-s c = search (needs, step-laws)
 
--- src/lib.rt:101:5
 loop-less : tie.Need-loop-less Inv-loop μ-loop
 loop-less c = search (needs, step-laws)
 
--- src/lib.rt:101:5
 loop-again : tie.Need-loop-again Inv-loop μ-loop
 loop-again c = search (needs, step-laws)
 
--- src/lib.rt:88:1
 same-length : tie.Need-same-length Inv-loop μ-loop
 same-length c = search (needs, step-laws)
 
--- src/lib.rt:88:1
 returns : tie.Need-returns Inv-loop μ-loop
 returns c = search (needs, step-laws)
 

@@ -1,11 +1,8 @@
-use Prim.Native.Nat.{_-_, _+_, _*_}
+use Prim.Native.Nat.{_-_}
 use borrow.Author.Needs.{needs}
 use Rattle.weights.proofs.RisingLaw.{Inv, rising-laws}
 use Rattle.weights.proofs.rising.Statement.{statement}
 use Rattle.weights.proofs.rising.Tie as tie
-use Rattle.weights.proofs.rising.Reads as reads
-use Rattle.weights.proofs.rising.Lts as lts
-use Rattle.weights.proofs.after.Reads as after-reads
 
 abbrev Inv-loop : tie.InvT-loop
 Inv-loop w₀ m d a b k₀ w k = Inv w₀ w m d a b k
@@ -13,47 +10,36 @@ Inv-loop w₀ m d a b k₀ w k = Inv w₀ w m d a b k
 abbrev μ-loop : tie.MeasureT-loop
 μ-loop w₀ m d a b k₀ w k = d - k
 
--- src/lib.rt:70:5
 loop-holds : tie.Need-loop-holds Inv-loop μ-loop
 loop-holds c = search (needs, rising-laws)
 
--- src/lib.rt:71:17
 add-n : tie.Need-add-n Inv-loop μ-loop
 add-n c = search (needs, rising-laws)
 
--- src/lib.rt:72:22
 mul-after : tie.Need-mul-after Inv-loop μ-loop
 mul-after c = search (needs, rising-laws)
 
--- src/lib.rt:72:22
 slice-read-after : tie.Need-slice-read-after Inv-loop μ-loop
 slice-read-after c = search (needs, rising-laws)
 
--- src/lib.rt:72:16
 after-requires : tie.Need-after-requires Inv-loop μ-loop
 after-requires c κs = search (needs, rising-laws)
 
--- src/lib.rt:72:9
 mul-w : tie.Need-mul-w Inv-loop μ-loop
 mul-w c = search (needs, rising-laws)
 
--- src/lib.rt:72:9
 slice-write-w : tie.Need-slice-write-w Inv-loop μ-loop
 slice-write-w c = search (needs, rising-laws)
 
--- src/lib.rt:70:5
 loop-less : tie.Need-loop-less Inv-loop μ-loop
 loop-less c = search (needs, rising-laws)
 
--- src/lib.rt:70:5
 loop-again : tie.Need-loop-again Inv-loop μ-loop
 loop-again c = search (needs, rising-laws)
 
--- src/lib.rt:65:1
 same-length : tie.Need-same-length Inv-loop μ-loop
 same-length c = search (needs, rising-laws)
 
--- src/lib.rt:65:1
 returns : tie.Need-returns Inv-loop μ-loop
 returns c = search (needs, rising-laws)
 

@@ -1,11 +1,8 @@
-use Prim.Native.Nat.{_-_, _+_, _*_}
+use Prim.Native.Nat.{_-_, _+_}
 use borrow.Author.Needs.{needs}
 use Rattle.weights.proofs.TotalLaw.{Inv, total-laws}
 use Rattle.weights.proofs.total.Statement.{statement}
 use Rattle.weights.proofs.total.Tie as tie
-use Rattle.weights.proofs.total.Reads as reads
-use Rattle.weights.proofs.total.Lts as lts
-use Rattle.weights.proofs.apart.Reads as apart-reads
 
 abbrev Inv-loop : tie.InvT-loop
 Inv-loop w m d t₀ k₀ t k = Inv w m d t k
@@ -13,59 +10,45 @@ Inv-loop w m d t₀ k₀ t k = Inv w m d t k
 abbrev μ-loop : tie.MeasureT-loop
 μ-loop w m d t₀ k₀ t k = d + 1 - k
 
--- src/lib.rt:82:17
 mul-t : tie.Need-mul-t Inv-loop μ-loop
 mul-t c = search (needs, total-laws)
 
--- src/lib.rt:82:17
 shared-slice-read-t : tie.Need-shared-slice-read-t Inv-loop μ-loop
 shared-slice-read-t c = search (needs, total-laws)
 
--- src/lib.rt:82:25
 apart-requires : tie.Need-apart-requires Inv-loop μ-loop
 apart-requires c κs = search (needs, total-laws)
 
--- src/lib.rt:82:17
 add-t : tie.Need-add-t Inv-loop μ-loop
 add-t c = search (needs, total-laws)
 
--- src/lib.rt:84:5
 loop-holds : tie.Need-loop-holds Inv-loop μ-loop
 loop-holds c = search (needs, total-laws)
 
--- src/lib.rt:85:14
 mul-t-2 : tie.Need-mul-t-2 Inv-loop μ-loop
 mul-t-2 c = search (needs, total-laws)
 
--- src/lib.rt:85:14
 shared-slice-read-t-2 : tie.Need-shared-slice-read-t-2 Inv-loop μ-loop
 shared-slice-read-t-2 c = search (needs, total-laws)
 
--- src/lib.rt:85:22
 apart-requires-2 : tie.Need-apart-requires-2 Inv-loop μ-loop
 apart-requires-2 c κs = search (needs, total-laws)
 
--- src/lib.rt:85:14
 add-t-2 : tie.Need-add-t-2 Inv-loop μ-loop
 add-t-2 c = search (needs, total-laws)
 
--- src/lib.rt:85:9
 add-t-3 : tie.Need-add-t-3 Inv-loop μ-loop
 add-t-3 c = search (needs, total-laws)
 
--- src/lib.rt:86:9
 add-k : tie.Need-add-k Inv-loop μ-loop
 add-k c = search (needs, total-laws)
 
--- src/lib.rt:84:5
 loop-less : tie.Need-loop-less Inv-loop μ-loop
 loop-less c = search (needs, total-laws)
 
--- src/lib.rt:84:5
 loop-again : tie.Need-loop-again Inv-loop μ-loop
 loop-again c = search (needs, total-laws)
 
--- src/lib.rt:78:1
 returns : tie.Need-returns Inv-loop μ-loop
 returns c = search (needs, total-laws)
 

@@ -1,10 +1,8 @@
-use Prim.Native.Nat.{_-_, _+_, _*_}
+use Prim.Native.Nat.{_-_}
 use borrow.Author.Needs.{needs}
 use Rattle.division.proofs.NewLaw.{Inv, new-laws}
 use Rattle.division.proofs.Divisor.new.Statement.{statement}
 use Rattle.division.proofs.Divisor.new.Tie as tie
-use Rattle.division.proofs.Divisor.new.Reads as reads
-use Rattle.division.proofs.Divisor.new.Lts as lts
 
 abbrev Inv-loop : tie.InvT-loop
 Inv-loop q factor₀ whole₀ factor whole = Inv q factor whole
@@ -12,31 +10,24 @@ Inv-loop q factor₀ whole₀ factor whole = Inv q factor whole
 abbrev μ-loop : tie.MeasureT-loop
 μ-loop q factor₀ whole₀ factor whole = 134217728 - whole
 
--- src/lib.rt:33:9
 loop-holds : tie.Need-loop-holds Inv-loop μ-loop
 loop-holds c = search (needs, new-laws)
 
--- src/lib.rt:34:21
 mul-whole : tie.Need-mul-whole Inv-loop μ-loop
 mul-whole c = search (needs, new-laws)
 
--- src/lib.rt:35:22
 mul-factor : tie.Need-mul-factor Inv-loop μ-loop
 mul-factor c = search (needs, new-laws)
 
--- src/lib.rt:33:9
 loop-less : tie.Need-loop-less Inv-loop μ-loop
 loop-less c = search (needs, new-laws)
 
--- src/lib.rt:33:9
 loop-again : tie.Need-loop-again Inv-loop μ-loop
 loop-again c = search (needs, new-laws)
 
--- src/lib.rt:40:22
 div-t5 : tie.Need-div-t5 Inv-loop μ-loop
 div-t5 c = search (needs, new-laws)
 
--- src/lib.rt:27:5
 returns : tie.Need-returns Inv-loop μ-loop
 returns c = search (needs, new-laws)
 

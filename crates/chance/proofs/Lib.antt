@@ -1,0 +1,3 @@
+pub mod SignLaw
+pub mod AmountLaw
+pub mod BoundLaw

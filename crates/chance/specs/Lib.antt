@@ -1,0 +1,2 @@
+-- The tokens between `P` and its operands.
+pub mod Chance

@@ -1,0 +1,5 @@
+pub mod PlaceLaw
+pub mod KindLaw
+pub mod NextLaw
+pub mod LayLaw
+pub mod BuildLaw

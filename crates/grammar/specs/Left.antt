@@ -1,0 +1,105 @@
+-- What a reader leaves: the last of the tokens before it. Assumes nothing.
+use mathlib.Core.Path.{_≡_, refl, _∙_}
+use Prim.Native.Nat.{ℕ, zero, suc, _+_, _≤_}
+use native.Mathlib.Omega.{arith}
+use mathlib.Core.Bool.{Bool, true, false}
+use mathlib.Core.List.{List, [], _∷_}
+use mathlib.Core.Option.{Option, none, some}
+use lib.ListN.{length, drop, length-drop}
+use lib.Seq.{drop-drop}
+use Rattle.csl.specs.Text.{Text, same}
+use Rattle.csl.specs.Limits.{formulaDigits}
+use Rattle.csl.specs.Number.{isNumber, valueOf}
+use Rattle.csl.specs.Formula.{Formula, both, until, Comparison}
+use Rattle.csl.specs.Grammar.{Found, nothing, found, Reader, andThen, comparisonOf, onComparison, onNumber, onWord, pair, path, Head, truth, name, bang, ampersand, chance, other, headOf, state, readState}
+
+-- the last of the tokens ts
+pub record Last (ts rest : List Text) : Type 0 where
+  pub cut : ℕ
+  pub is : rest ≡ drop cut ts
+
+-- a reader that was given ts left the last of them
+pub data Leaves : List Text → Found → Type 0 where
+  none-read : {ts : List Text} → Leaves ts nothing
+  left : {ts rest : List Text} {f : Formula} → Last ts rest → Leaves ts (found f rest)
+
+-- a reader that does so on all tokens
+abbrev pub Steady : Reader → Type 0
+Steady read = (ts : List Text) → Leaves ts (read ts)
+
+pub last-all : (ts : List Text) → Last ts ts
+last-all ts = record { cut = 0; is = refl }
+
+pub last-more : {w : Text} {ts rest : List Text} → Last ts rest → Last (w ∷ ts) rest
+last-more l = record { cut = suc (l .cut); is = l .is }
+
+pub last-last : {ts us rest : List Text} → Last ts us → Last us rest → Last ts rest
+last-last {ts} {us} {rest} a b =
+    record { cut = a .cut + b .cut; is = b .is ∙ rw (a .is) (drop-drop (b .cut) (a .cut) ts) }
+
+pub last-length : {ts rest : List Text} → Last ts rest → length rest ≤ length ts
+last-length {ts} {rest} l = rw (l .is) (omega (arith, length-drop (l .cut) ts))
+
+then-leaves : {ts : List Text} {fd : Found} (next : Formula → List Text → Found) → Leaves ts fd
+    → ((a : Formula) (more : List Text) → Last ts more → Leaves ts (next a more)) → Leaves ts (andThen fd next)
+unfolding andThen
+then-leaves next none-read h = none-read
+then-leaves next (left l) h = h _ _ l
+
+within : {ts us : List Text} {fd : Found} → Last ts us → Leaves us fd → Leaves ts fd
+within l none-read = none-read
+within l (left m) = left (last-last l m)
+
+comparison-leaves : (ts : List Text) (next : Comparison → List Text → Found) → ((r : Comparison) → (more : List Text) → Leaves more (next r more))
+    → Leaves ts (onComparison ts next)
+unfolding onComparison
+comparison-leaves [] next h = none-read
+comparison-leaves (w ∷ ts) next h = go (comparisonOf w)
+  where
+    go : (o : Option Comparison) → Leaves (w ∷ ts) (elim o [ none ↦ nothing | some r ↦ next r ts ])
+    go none = none-read
+    go (some r) = within (last-more (last-all ts)) (h r ts)
+
+number-leaves : (ts : List Text) (next : ℕ → List Text → Found) → ((p : ℕ) → (more : List Text) → Leaves more (next p more))
+    → Leaves ts (onNumber ts next)
+unfolding onNumber
+number-leaves [] next h = none-read
+number-leaves (w ∷ ts) next h = go (isNumber formulaDigits w)
+  where
+    go : (o : Bool) → Leaves (w ∷ ts) (elim o [ true ↦ next (valueOf w) ts | false ↦ nothing ])
+    go false = none-read
+    go true = within (last-more (last-all ts)) (h (valueOf w) ts)
+
+word-leaves : (x : Text) (ts : List Text) (next : List Text → Found) → ((more : List Text) → Leaves more (next more)) → Leaves ts (onWord x ts next)
+unfolding onWord
+word-leaves x [] next h = none-read
+word-leaves x (w ∷ ts) next h = go (same w x)
+  where
+    go : (o : Bool) → Leaves (w ∷ ts) (elim o [ true ↦ next ts | false ↦ nothing ])
+    go false = none-read
+    go true = within (last-more (last-all ts)) (h ts)
+
+module _ (read : Reader) (steady : Steady read) where
+  pub pair-leaves : (make : Formula → Formula → Formula) → Steady (pair read make)
+  unfolding pair
+  pair-leaves make ts =
+      then-leaves _ (steady ts) λ a more l. within l (then-leaves _ (steady more) λ b rest m. left m)
+
+  pub path-leaves : (r : Comparison) (p : ℕ) → Steady (path read r p)
+  unfolding path
+  path-leaves r p ts = word-leaves _ ts _ λ more. number-leaves more _ λ t rest. pair-leaves (until r p t) rest
+
+  pub state-leaves : (w : Text) (h : Head) → Steady (state read w h)
+  unfolding state
+  state-leaves w truth ts = left (last-all ts)
+  state-leaves w name ts = left (last-all ts)
+  state-leaves w bang ts = then-leaves _ (steady ts) λ a rest l. left l
+  state-leaves w ampersand ts = pair-leaves both ts
+  state-leaves w chance ts = comparison-leaves ts _ λ r more. number-leaves more _ λ p rest. path-leaves r p rest
+  state-leaves w other ts = none-read
+
+pub steps-leave : (k : ℕ) → Steady (readState k)
+unfolding readState
+steps-leave zero ts = none-read
+steps-leave (suc k) [] = none-read
+steps-leave (suc k) (w ∷ ts) = within (last-more (last-all ts)) (state-leaves (readState k) (steps-leave k) w (headOf w) ts)

@@ -1,0 +1,3 @@
+-- Marks as words.
+pub mod Left
+pub mod Words

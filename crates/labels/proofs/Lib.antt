@@ -1,0 +1,2 @@
+pub mod RowLaw
+pub mod RowsLaw

@@ -1,0 +1,9 @@
+use Rattle.labels.proofs.RowsLaw.{unended-is}
+use Rattle.labels.proofs.unended.Statement.{statement}
+use Rattle.labels.proofs.unended.Tie as tie
+
+returns : tie.Need-returns
+returns c = unended-is (c .args .layout)
+
+pub unended-spec : {M : Type 1} → statement M
+unended-spec = tie.close (tie.spec returns)

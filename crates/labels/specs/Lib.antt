@@ -1,0 +1,3 @@
+-- What the readers of the labels text answer.
+pub mod Row
+pub mod Facts

@@ -1,0 +1,3 @@
+-- Laws that the proofs of the functions lean on.
+mod Filling
+mod Zeros

@@ -1,0 +1,4 @@
+-- Rows of verdict bytes.
+pub mod Byte
+pub mod Row
+pub mod Shown

@@ -1,0 +1,16 @@
+use borrow.Author.Tests.{eq-eqb, ne-eqb}
+use borrow.Author.Needs.{needs}
+use Rattle.names.proofs.comma_more.Statement.{statement}
+use Rattle.names.proofs.comma_more.Tie as tie
+
+add-result : tie.Need-add-result
+add-result c = search needs
+
+returns : tie.Need-returns
+returns c = rw (eq-eqb _ 44 (c .if1 .taken))
+
+returns-2 : tie.Need-returns-2
+returns-2 c = rw (ne-eqb _ 44 (c .if1 .left))
+
+pub comma-more-spec : {M : Type 1} → statement M
+comma-more-spec = tie.close (tie.spec add-result returns returns-2)

@@ -1,0 +1,2 @@
+-- The names of a first line.
+pub mod Names

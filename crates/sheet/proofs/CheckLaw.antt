@@ -1,0 +1,88 @@
+-- Conditions 1 to 9 of a job, by the lengths of its texts and the facts of its sheet. Assumes nothing.
+use mathlib.Core.Path.{_≡_, refl, sym, _∙_}
+use Prim.Native.Nat.{ℕ, _≤_}
+use borrow.Author.Tests.{ltb-false}
+use mathlib.Core.Bool.{Bool, true, false, cond, not, _&&_, _||_, true≢false}
+use mathlib.Core.List.{List, [], _∷_}
+use mathlib.Core.Option.{Option, none, some}
+use lib.ListN.{length}
+use lib.Dec.{ltb, eqb}
+use Rattle.csl.specs.Text.{any}
+use Rattle.csl.specs.Line.{lineFeed, laterLines}
+use Rattle.csl.specs.Labels.{namesOf, labelsHead, labelsLayout, inTurn, statesOf}
+use Rattle.csl.specs.Moves.{movesHead, movesLayout, movesOf, isRising}
+use Rattle.csl.specs.Refusal.{Job, Test, test, firstOf, badLength, outOfBytes, brokenLayout, wrongFirstLine, wrongStates, manyMoves, strangeState, ownState, notRising, wrongRate}
+use Rattle.texts.specs.Span.{spanOf}
+use Rattle.moves.specs.Facts as m
+use Rattle.labels.specs.Facts as l
+use Rattle.labels.specs.declared.Facts as labels
+use Rattle.sheet.specs.Checked.{answer, sheetOf, sheetTests, checkedOf, judged, judgedTests}
+use Rattle.sheet.specs.declared.Checked.{Checked}
+use Rattle.sheet.specs.declared.Checked.the-variants.{Refused}
+
+-- condition 9 is put to rising moves only
+last-two : (r w : Bool) → cond {A = Option ℕ} (not r) (some 8) (cond w (some 9) none) ≡ cond (not r) (some 8) (cond (not (r && not w)) (some 9) none)
+last-two true true = refl
+last-two true false = refl
+last-two false w = refl
+
+-- the facts of the labels text, where its layout is right
+abbrev right : Job → labels.Facts
+right j =
+    record {
+      layout = true;
+      head = labelsHead (j .labels);
+      states = statesOf (j .labels);
+      turn = inTurn 0 (laterLines (j .labels));
+      names = length (namesOf (j .labels));
+      first = spanOf lineFeed (j .labels);
+    }
+
+-- conditions 3 to 9
+abbrev later : Job → List Test
+later j =
+    test 3 (wrongFirstLine j) ∷ test 4 (wrongStates j) ∷ test 5 (manyMoves j) ∷ test 6 (strangeState j) ∷ test 7 (ownState j)
+    ∷ test 8 (notRising j) ∷ test 9 (wrongRate j) ∷ []
+
+module _ (j : Job) where
+  module _ (p : badLength 61440 (j .moves) ≡ true) where
+    pub first-wrong : Refused 1 ≡ checkedOf j
+    unfolding checkedOf sheetTests firstOf outOfBytes
+    first-wrong = rw p
+
+  module _ (p : badLength 61440 (j .moves) ≡ false) where
+    pub second-wrong : badLength 61440 (j .labels) ≡ true → Refused 1 ≡ checkedOf j
+    unfolding checkedOf sheetTests firstOf outOfBytes
+    second-wrong q = rw (p, q)
+
+    module _ (q : badLength 61440 (j .labels) ≡ false) where
+      pub third-wrong : badLength 512 (j .formula) ≡ true → Refused 1 ≡ checkedOf j
+      unfolding checkedOf sheetTests firstOf outOfBytes
+      third-wrong r = rw (p, q, r)
+
+      bytes-right : badLength 512 (j .formula) ≡ false
+          → checkedOf j ≡ answer (sheetOf j) (cond (not (movesLayout (j .moves) && labelsLayout (j .labels))) (some 2) (firstOf (later j)))
+      unfolding checkedOf sheetTests firstOf outOfBytes brokenLayout
+      bytes-right r = rw (p, q, r)
+
+  facts-judged : (x y : Bool)
+      → judged (cond x (m.factsIn (cond y (right j) l.broken .states) (movesHead (j .moves)) (movesOf (j .moves))) m.broken) (cond y (right j) l.broken)
+      ≡ answer (sheetOf j) (cond (not (x && y)) (some 2) (firstOf (later j)))
+  unfolding judged judgedTests firstOf wrongFirstLine wrongStates manyMoves strangeState ownState notRising wrongRate
+  facts-judged true true = sym (rw (last-two (isRising (movesOf (j .moves))) (m.hasWrongRate (movesOf (j .moves)))))
+  facts-judged true false = refl
+  facts-judged false true = refl
+  facts-judged false false = refl
+
+  pub checked-is : badLength 61440 (j .moves) ≡ false → badLength 61440 (j .labels) ≡ false → badLength 512 (j .formula) ≡ false
+      → judged (m.factsOf (l.factsOf (j .labels) .states) (j .moves)) (l.factsOf (j .labels)) ≡ checkedOf j
+  unfolding m.factsOf l.factsOf
+  checked-is p q r = facts-judged (movesLayout (j .moves)) (labelsLayout (j .labels)) ∙ sym (bytes-right p q r)
+
+-- a text within its byte limit
+pub within : (n : ℕ) → (eqb n 0 || ltb 61440 n) ≡ false → n ≤ 61440
+within n h = go (eqb n 0) h
+  where
+    go : (x : Bool) → (x || ltb 61440 n) ≡ false → n ≤ 61440
+    go true q = absurd (true≢false q)
+    go false q = ltb-false 61440 n q

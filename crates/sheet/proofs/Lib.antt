@@ -1,0 +1,2 @@
+pub mod JudgeLaw
+pub mod CheckLaw

@@ -1,0 +1,2 @@
+-- Conditions 1 to 9.
+pub mod Checked

@@ -1,0 +1,4 @@
+pub mod ChooseLaw
+pub mod BeginLaw
+pub mod AdvanceLaw
+pub mod RunLaw

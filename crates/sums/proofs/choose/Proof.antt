@@ -1,0 +1,13 @@
+use borrow.Author.Needs.{needs}
+use Rattle.sums.proofs.ChooseLaw.{choose-laws}
+use Rattle.sums.proofs.choose.Statement.{statement}
+use Rattle.sums.proofs.choose.Tie as tie
+
+returns : tie.Need-returns
+returns c = search (needs, choose-laws)
+
+returns-2 : tie.Need-returns-2
+returns-2 c = search (needs, choose-laws)
+
+pub choose-spec : {M : Type 1} → statement M
+choose-spec = tie.close (tie.spec returns returns-2)

@@ -1,0 +1,2 @@
+-- What the functions of the sums ask and promise.
+pub mod Asked

@@ -1,0 +1,4 @@
+pub mod FitsLaw
+pub mod PairLaw
+pub mod HeadedLaw
+pub mod TextLaw

@@ -1,0 +1,2 @@
+-- The size of a formula, as the code counts it.
+pub mod Size

@@ -1,0 +1,178 @@
+// Whether a text spells a formula, and how large it is: a reader that keeps nothing but counts, for texts of any depth.
+use chance::Amount;
+use chance::Bound;
+use tokens::Head;
+ghost use mathlib.Core.Path.{_≡_};
+ghost use Prim.Native.Nat.{ℕ, _+_, _-_, _*_, _≤_, max};
+ghost use lib.ListN.{length};
+ghost use Rattle.csl.specs.Line.{space, parts};
+ghost use Rattle.csl.specs.Formula.{Comparison, both};
+ghost use Rattle.csl.specs.Grammar.{headOf, state, pair, path, readFormula};
+ghost use Rattle.grammar.specs.Fixed.{read};
+ghost use Rattle.tokens.specs.Behind.{tokens};
+ghost use Rattle.survey.specs.Size.{sizeOf, overOne, overTwo, SizeFits, extentOf};
+
+// What reading a state formula found: the bytes left behind it, and its nodes and levels.
+pub enum Size {
+    Read {
+        left: usize,
+        nodes: usize,
+        levels: usize,
+    },
+    Wrong,
+}
+
+// Whether a text spells a formula, and where it does its nodes and levels.
+pub struct Extent {
+    pub readable: bool,
+    pub nodes: usize,
+    pub levels: usize,
+}
+
+pub const UNREADABLE: Extent = Extent {
+    readable: false,
+    nodes: 0,
+    levels: 0,
+};
+
+fn larger(a: usize, b: usize) -> usize
+    ensures { λ r. ⌜ r ≡ max a b ⌝ }
+{
+    if a < b { b } else { a }
+}
+
+// A node over one operand.
+fn over_one(a: Size) -> Size
+    requires { ⌜ SizeFits a 18446744073709551615 ⌝ }
+    ensures { λ r. ⌜ r ≡ overOne a ⌝ }
+{
+    match a {
+        Size::Wrong => Size::Wrong,
+        Size::Read {
+            left,
+            nodes,
+            levels,
+        } => Size::Read {
+            left: left,
+            nodes: 1 + nodes,
+            levels: 1 + levels,
+        },
+    }
+}
+
+// A node over two operands; the first has these nodes and levels.
+fn over_two(nodes: usize, levels: usize, b: Size) -> Size
+    requires { ⌜ (levels ≤ nodes) × (2 * nodes ≤ 18446744073709551615) × SizeFits b (18446744073709551615 - 2 * nodes) ⌝ }
+    ensures { λ r. ⌜ r ≡ overTwo nodes levels b ⌝ }
+{
+    match b {
+        Size::Wrong => Size::Wrong,
+        Size::Read {
+            left,
+            nodes: more,
+            levels: deep,
+        } => Size::Read {
+            left: left,
+            nodes: 1 + (nodes + more),
+            levels: 1 + larger(levels, deep),
+        },
+    }
+}
+
+// A state formula at the start of a rest.
+pub fn size_state(s: &[u8]) -> Size
+    ensures { λ r. ⌜ r ≡ sizeOf (read (tokens (now (s .entry)))) ⌝ }
+    ensures within { λ r. ⌜ SizeFits r (length (now (s .entry))) ⌝ }
+{
+    let w = tokens::part(s, 32);
+    let t = tokens::after(s, 32);
+    size_headed(w, t)
+}
+
+// A state formula whose first token is w, and s the rest behind it.
+fn size_headed(w: &[u8], s: &[u8]) -> Size
+    ensures { λ r. ⌜ r ≡ sizeOf (state read (now (w .entry)) (headOf (now (w .entry))) (tokens (now (s .entry)))) ⌝ }
+    ensures within { λ r. ⌜ SizeFits r (1 + (length (now (w .entry)) + length (now (s .entry)))) ⌝ }
+{
+    match tokens::read_head(w) {
+        Head::Other => Size::Wrong,
+        Head::Truth => Size::Read {
+            left: s.len(),
+            nodes: 1,
+            levels: 1,
+        },
+        Head::Name => Size::Read {
+            left: s.len(),
+            nodes: 1,
+            levels: 1,
+        },
+        Head::Bang => over_one(size_state(s)),
+        Head::Ampersand => size_pair(s),
+        Head::Chance => match chance::read_bound(s) {
+            Bound::Missing => Size::Wrong,
+            Bound::Is(_, _) => size_path(tokens::after_two(s)),
+        },
+    }
+}
+
+// A node over the two state formulas at the start of a rest.
+fn size_pair(s: &[u8]) -> Size
+    ensures { λ r. ⌜ r ≡ sizeOf (pair read both (tokens (now (s .entry)))) ⌝ }
+    ensures within { λ r. ⌜ SizeFits r (2 + length (now (s .entry))) ⌝ }
+{
+    match size_state(s) {
+        Size::Wrong => Size::Wrong,
+        Size::Read {
+            left,
+            nodes,
+            levels,
+        } => over_two(nodes, levels, size_state(&s[s.len() - left..])),
+    }
+}
+
+// A path formula at the start of a rest, with the `P` before it.
+fn size_path(s: &[u8]) -> Size
+    ensures { λ r. ⌜ ((c : Comparison) → (p : ℕ) → r ≡ sizeOf (path read c p (tokens (now (s .entry))))) ⌝ }
+    ensures within { λ r. ⌜ SizeFits r (2 + length (now (s .entry))) ⌝ }
+{
+    match chance::read_hours(s) {
+        Amount::Missing => Size::Wrong,
+        Amount::Is(_) => size_pair(tokens::after_two(s)),
+    }
+}
+
+// A state formula at the start of a line.
+fn size_line(line: &[u8]) -> Size
+    ensures { λ r. ⌜ r ≡ sizeOf (read (parts space (now (line .entry)))) ⌝ }
+{
+    let n = texts::span(line, 32);
+    size_headed(&line[..n], &line[n..])
+}
+
+// Whether a text spells a formula, whatever its length and depth, and how large that is.
+pub fn survey(text: &[u8]) -> Extent
+    ensures { λ r. ⌜ r ≡ extentOf (readFormula (now (text .entry))) ⌝ }
+{
+    let n = texts::span(text, 10);
+    if text.len() - n != 1 {
+        return UNREADABLE;
+    }
+    match size_line(&text[..n]) {
+        Size::Wrong => UNREADABLE,
+        Size::Read {
+            left,
+            nodes,
+            levels,
+        } => {
+            if left == 0 {
+                Extent {
+                    readable: true,
+                    nodes: nodes,
+                    levels: levels,
+                }
+            } else {
+                UNREADABLE
+            }
+        }
+    }
+}

@@ -1,0 +1,3 @@
+pub mod CutLaw
+pub mod WordLaw
+pub mod HeadLaw

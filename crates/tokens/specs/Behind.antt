@@ -1,0 +1,136 @@
+-- The rest of a text whose parts a mark sets apart. It begins with a mark, behind which its first part stands; an empty rest has no parts.
+-- So "no part" and "an empty part" are two things. Assumes nothing.
+use mathlib.Core.Path.{_≡_, refl}
+use Prim.Native.Nat.{ℕ, zero, suc, _+_, _-_, _≤_}
+use native.Mathlib.Omega.{arith}
+use mathlib.Core.List.{List, [], _∷_, headD, tail}
+use mathlib.Core.Bool.{Bool, true, false, cond}
+use lib.ListN.{length, take, drop, length-drop}
+use lib.Seq.{drop-drop, drop-nil, length-take-le}
+use lib.Dec.{eqb}
+use native.Mathlib.Nat.{sub-self}
+use Rattle.csl.specs.Text.{Text}
+use Rattle.csl.specs.Line.{space, ahead, parts}
+use Rattle.texts.specs.Span.{spanOf}
+use Rattle.texts.specs.Cut.{span-within}
+use Rattle.grammar.specs.Left.{Last}
+
+-- the parts of a rest
+unfoldable pub partsBehind : ℕ → Text → List Text
+partsBehind mark [] = []
+partsBehind mark (b ∷ t) = parts mark t
+
+-- the tokens of what is left of a formula
+abbrev pub tokens : Text → List Text
+tokens s = partsBehind space s
+
+-- the rest after the first part
+unfoldable pub afterPart : ℕ → Text → Text
+afterPart mark s = drop (suc (spanOf mark (drop 1 s))) s
+
+-- the bytes that parts take, each with a mark in front
+unfoldable pub bytesOf : List Text → ℕ
+bytesOf [] = 0
+bytesOf (w ∷ ws) = suc (length w + bytesOf ws)
+
+module _ (mark : ℕ) where
+  -- the first part of a text, and the rest behind it
+  pub parts-first : (t : Text) → parts mark t ≡ take (spanOf mark t) t ∷ partsBehind mark (drop (spanOf mark t) t)
+  unfolding parts partsBehind spanOf ahead
+  parts-first [] = refl
+  parts-first (b ∷ t) = go (eqb b mark) (parts-first t)
+    where
+      go : (p : Bool) → parts mark t ≡ take (spanOf mark t) t ∷ partsBehind mark (drop (spanOf mark t) t)
+          → cond p ([] ∷ parts mark t) (ahead b (parts mark t))
+          ≡ take (cond p 0 (suc (spanOf mark t))) (b ∷ t) ∷ partsBehind mark (drop (cond p 0 (suc (spanOf mark t))) (b ∷ t))
+      go true ih = refl
+      go false ih = rw ih
+
+  -- the first part of a rest, and the rest after it
+  pub behind-head : (s : Text) → headD (partsBehind mark s) [] ≡ take (spanOf mark (drop 1 s)) (drop 1 s)
+  unfolding partsBehind headD spanOf
+  behind-head [] = refl
+  behind-head (b ∷ t) = rw parts-first
+
+  pub behind-tail : (s : Text) → tail (partsBehind mark s) ≡ partsBehind mark (afterPart mark s)
+  unfolding partsBehind afterPart
+  behind-tail [] = refl
+  behind-tail (b ∷ t) = rw parts-first
+
+  -- a part and the rest after it are no longer than the rest before
+  pub behind-length : (s : Text) → length (headD (partsBehind mark s) []) + length (afterPart mark s) ≤ length s
+  unfolding afterPart
+  behind-length s =
+      let w = span-within mark (drop 1 s) in
+      rw (behind-head, length-take-le _ _ w, length-drop) (omega (arith, length-drop 1 s))
+
+  -- and shorter by the mark, where there is one
+  pub behind-shorter : (s : Text) → 1 ≤ length s → 1 + (length (headD (partsBehind mark s) []) + length (afterPart mark s)) ≤ length s
+  unfolding afterPart
+  behind-shorter s h =
+      let w = span-within mark (drop 1 s) in
+      rw (behind-head, length-take-le _ _ w, length-drop) (omega (arith, length-drop 1 s))
+
+  pub after-within : (s : Text) → length (afterPart mark s) ≤ length s
+  unfolding afterPart
+  after-within s = omega (arith, length-drop (suc (spanOf mark (drop 1 s))) s)
+
+  bytes-parts : (t : Text) → bytesOf (parts mark t) ≡ suc (length t)
+  unfolding parts bytesOf ahead
+  bytes-parts [] = refl
+  bytes-parts (b ∷ t) = go (eqb b mark) (bytes-parts t)
+    where
+      go : (p : Bool) → bytesOf (parts mark t) ≡ suc (length t) → bytesOf (cond p ([] ∷ parts mark t) (ahead b (parts mark t))) ≡ suc (suc (length t))
+      go true ih = rw ih (omega arith)
+      go false ih = let h = rw parts-first at ih in rw parts-first (omega arith)
+
+  -- a rest is as long as its parts with their marks
+  pub bytes-behind : (s : Text) → bytesOf (partsBehind mark s) ≡ length s
+  unfolding partsBehind bytesOf
+  bytes-behind [] = refl
+  bytes-behind (b ∷ t) = bytes-parts t
+
+  bytes-drop : (j : ℕ) (ws : List Text) → bytesOf (drop j ws) ≤ bytesOf ws
+  unfolding bytesOf
+  bytes-drop zero ws = omega arith
+  bytes-drop (suc j) [] = omega arith
+  bytes-drop (suc j) (w ∷ ws) = omega (arith, bytes-drop j ws)
+
+  -- the last m bytes of a text are those of each of its ends that is long enough
+  shorter : (b : ℕ) (t : Text) (n m : ℕ) → n ≤ length t → m ≤ length (drop n t)
+      → drop (suc (length t) - m) (b ∷ t) ≡ drop (length (drop n t) - m) (drop n t)
+  shorter b t n m h k =
+      let d = length-drop n t in
+      let e : suc (length t) - m ≡ suc (length t - m) = omega arith in
+      let f : n + (length (drop n t) - m) ≡ length t - m = omega arith in
+      rw (e, drop-drop, f)
+
+  -- the last parts of a rest are the parts of its last bytes
+  ending : (j : ℕ) (s : Text) → partsBehind mark (drop (length s - bytesOf (drop j (partsBehind mark s))) s) ≡ drop j (partsBehind mark s)
+  unfolding partsBehind
+  ending zero s = rw (bytes-behind s, sub-self)
+  ending (suc j) [] = rw drop-nil
+  ending (suc j) (b ∷ t) =
+      let u = drop (spanOf mark t) t in
+      rw (
+        parts-first,
+        shorter b t (spanOf mark t) (bytesOf (drop j (partsBehind mark u))) (span-within mark t) (omega (arith, bytes-drop j (partsBehind mark u), bytes-behind u)),
+      )
+      (ending j u)
+
+  module _ (s : Text) (rest : List Text) (l : Last (partsBehind mark s) rest) where
+    pub last-behind : partsBehind mark (drop (length s - bytesOf rest) s) ≡ rest
+    last-behind = rw (l .is) (ending (l .cut) s)
+
+    pub last-within : bytesOf rest ≤ length s
+    last-within = rw (l .is) (omega (arith, bytes-drop (l .cut) (partsBehind mark s), bytes-behind s))
+
+-- w is the first token of the rest s, and t the rest after it
+pub token-within : (s w t : Text) → w ≡ headD (tokens s) [] → t ≡ afterPart space s → length w + length t ≤ length s
+token-within s w t e f = rw (e, f) (behind-length space s)
+
+pub two-within : (s t : Text) → t ≡ afterPart space (afterPart space s) → length t ≤ length s
+two-within s t e = rw e (omega (arith, after-within space (afterPart space s), after-within space s))
+
+pub two-tail : (s t : Text) → t ≡ afterPart space (afterPart space s) → tail (tail (tokens s)) ≡ tokens t
+two-tail s t e = rw (e, behind-tail, behind-tail)

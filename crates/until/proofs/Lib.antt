@@ -1,0 +1,6 @@
+pub mod PointedLaw
+pub mod EndsLaw
+pub mod StillLaw
+pub mod WeighLaw
+pub mod SummedLaw
+pub mod UntilLaw

@@ -1,0 +1,37 @@
+use borrow.Author.Needs.{needs}
+use Rattle.until.proofs.SummedLaw.{summed-laws, may-end}
+use Rattle.until.proofs.summed.Statement.{statement}
+use Rattle.until.proofs.summed.Tie as tie
+
+new-requires : tie.Need-new-requires
+new-requires c κs = search needs
+
+weigh-requires : tie.Need-weigh-requires
+weigh-requires c κs = search needs
+
+begin-requires : tie.Need-begin-requires
+begin-requires c κs = search needs
+
+run-requires : tie.Need-run-requires
+run-requires c κs = search (needs, summed-laws)
+
+ends-requires : tie.Need-ends-requires
+ends-requires c κs = may-end (c .before .before .before .before .before .before .before .before .before .before .before .before .before .before .before .before .before .before .pre) (c .before .before .before .before .before .before .before .before .before .before .before .weigh .ensures) (c .before .before .before .before .before .before .before .begin .ensures) (c .before .before .before .before .before .before .before .before .before .before .before .before .before .new .ensures) (c .before .before .before .run .ensures)
+
+same-length : tie.Need-same-length
+same-length c = search needs
+
+returns : tie.Need-returns
+returns c = search (needs, summed-laws)
+
+pub summed-spec : {M : Type 1} → statement M
+summed-spec =
+    tie.close
+    (tie.spec
+    new-requires
+    weigh-requires
+    begin-requires
+    run-requires
+    ends-requires
+    same-length
+    returns)

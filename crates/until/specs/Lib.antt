@@ -1,0 +1,3 @@
+-- What the functions of until ask and promise, and what the promise says of a chain.
+pub mod Asked
+pub mod Shown
