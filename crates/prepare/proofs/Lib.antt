@@ -1,0 +1,4 @@
+pub mod PartLaw
+pub mod MarksLaw
+pub mod RatesLaw
+pub mod PrepareLaw

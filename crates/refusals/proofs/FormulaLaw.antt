@@ -1,0 +1,90 @@
+-- Tests 10 to 14, by what the survey told of the text and by the store of its formula. Assumes nothing.
+use mathlib.Core.Path.{_≡_, refl}
+use Prim.Native.Nat.{ℕ}
+use mathlib.Core.Bool.{Bool, true, false, not, _||_, true≢false, false≢true}
+use mathlib.Core.List.{List, [], _∷_}
+use mathlib.Core.Option.{Option, none, some}
+use lib.ListN.{length}
+use lib.Dec.{ltb}
+use borrow.Author.Tests.{le-leb, ltb-false}
+use Rattle.csl.specs.Text.{Text}
+use Rattle.csl.specs.Formula.{Formula, nodes, levels}
+use Rattle.csl.specs.Refusal.{formulaFrom, isMissing, test, firstOf}
+use Rattle.survey.specs.Size.{extentOf}
+use Rattle.survey.specs.declared.Extent.{Extent}
+use Rattle.store.specs.Pass.{allPassed}
+use Rattle.store.specs.declared.Store.{Store}
+use Rattle.store.specs.declared.Test.the-variants.{Labels, Limits, Load}
+use Rattle.formula.specs.Listed.{storeOf}
+use Rattle.formula.specs.Stored.{labels-tested, limits-tested, load-tested}
+use Rattle.refusals.specs.Sides.{or-left, or-right}
+use Rattle.refusals.specs.Tested.{testsOn, formulaAnswer, formulaTestedOf}
+use Rattle.refusals.specs.declared.FormulaTested.{FormulaTested}
+use Rattle.refusals.specs.declared.FormulaTested.the-variants.{Nodes, Wrong}
+
+module _ (names : List Text) (q : ℕ) (o : Option Formula) (e : Extent) (is : e ≡ extentOf o) where
+  pub at-10 : e .readable ≡ false → Wrong 10 ≡ formulaTestedOf names q o
+  unfolding formulaTestedOf testsOn firstOf isMissing
+  at-10 h = go o (rw is at h)
+    where
+      go : (p : Option Formula) → extentOf p .readable ≡ false → Wrong 10 ≡ formulaTestedOf names q p
+      go none k = refl
+      go (some f) k = absurd (true≢false k)
+
+  module _ (r : e .readable ≡ true) where
+    pub at-11 : (ltb 64 (e .nodes) || ltb 16 (e .levels)) ≡ true → Wrong 11 ≡ formulaTestedOf names q o
+    unfolding formulaTestedOf testsOn firstOf isMissing formulaFrom
+    at-11 h = go o (rw is at r) (rw is at h)
+      where
+        go : (p : Option Formula) → extentOf p .readable ≡ true → (ltb 64 (extentOf p .nodes) || ltb 16 (extentOf p .levels)) ≡ true
+            → Wrong 11 ≡ formulaTestedOf names q p
+        go none k l = absurd (false≢true k)
+        go (some f) k l = rw l
+
+    module _ (s : (ltb 64 (e .nodes) || ltb 16 (e .levels)) ≡ false) (st : Store) (built : st ≡ storeOf names o) where
+      -- the tests of the store
+      abbrev answered : Store → ℕ → FormulaTested
+      answered x n =
+          formulaAnswer n
+          (firstOf
+          (test 12 (not (allPassed (Labels (length names)) x)) ∷ test 13 (not (allPassed Limits x)) ∷ test 14 (not (allPassed (Load q) x)) ∷ []))
+
+      of-formula : (f : Formula) → (ltb 64 (nodes f) || ltb 16 (levels f)) ≡ false
+          → answered (storeOf names (some f)) (nodes f) ≡ formulaTestedOf names q (some f)
+      unfolding formulaTestedOf testsOn firstOf isMissing formulaFrom storeOf
+      of-formula f h =
+          rw (
+            le-leb (nodes f) 64 (ltb-false _ _ (or-left (ltb 64 (nodes f)) _ h)),
+            le-leb (levels f) 16 (ltb-false _ _ (or-right (ltb 64 (nodes f)) _ h)),
+            h,
+            labels-tested,
+            limits-tested,
+            load-tested,
+          )
+
+      by-store : answered st (e .nodes) ≡ formulaTestedOf names q o
+      by-store = rw (built, is) (go o (rw is at r) (rw is at s))
+        where
+          go : (p : Option Formula) → extentOf p .readable ≡ true → (ltb 64 (extentOf p .nodes) || ltb 16 (extentOf p .levels)) ≡ false
+              → answered (storeOf names p) (extentOf p .nodes) ≡ formulaTestedOf names q p
+          go none k l = absurd (false≢true k)
+          go (some f) k l = of-formula f l
+
+      module _ (count : ℕ) (all : count ≡ length names) where
+        pub at-12 : allPassed (Labels count) st ≡ false → Wrong 12 ≡ formulaTestedOf names q o
+        unfolding firstOf
+        at-12 h = rw (rw all at h) at by-store
+
+        module _ (t : allPassed (Labels count) st ≡ true) where
+          pub at-13 : allPassed Limits st ≡ false → Wrong 13 ≡ formulaTestedOf names q o
+          unfolding firstOf
+          at-13 h = rw (rw all at t, h) at by-store
+
+          module _ (u : allPassed Limits st ≡ true) where
+            pub at-14 : allPassed (Load q) st ≡ false → Wrong 14 ≡ formulaTestedOf names q o
+            unfolding firstOf
+            at-14 h = rw (rw all at t, u, h) at by-store
+
+            pub at-end : allPassed (Load q) st ≡ true → Nodes (e .nodes) ≡ formulaTestedOf names q o
+            unfolding firstOf
+            at-end h = rw (rw all at t, u, h) at by-store

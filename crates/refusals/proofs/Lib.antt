@@ -1,0 +1,3 @@
+pub mod FormulaLaw
+pub mod TestLaw
+pub mod ShortLaw
