@@ -1,0 +1,67 @@
+use mathlib.Core.Path.{sym, _∙_}
+use Rattle.refusals.specs.Kept.{passed-limited}
+use Rattle.checker.proofs.CheckLaw.{turned-back, too-short, accepted}
+use borrow.Author.Needs.{needs}
+use Rattle.checker.proofs.check.Statement.{statement}
+use Rattle.checker.proofs.check.Tie as tie
+
+test-requires : tie.Need-test-requires
+test-requires c κs = search needs
+
+enum-known-number : tie.Need-enum-known-number
+enum-known-number c = search needs
+
+enum-known-accepted : tie.Need-enum-known-accepted
+enum-known-accepted c = search needs
+
+too-short-requires : tie.Need-too-short-requires
+too-short-requires c κs = passed-limited _ _ (sym (c .before .before .before .test .ensures) ∙ (c .before .accepted .given .1))
+
+returns : tie.Need-returns
+returns c = too-short _ _ _ (sym (c .before .before .before .before .before .test .ensures) ∙ (c .before .before .before .accepted .given .1)) (sym (c .before .too-short .ensures) ∙ (c .if1 .taken))
+
+report-requires : tie.Need-report-requires
+report-requires c κs = record { passed = (sym (c .before .before .before .before .before .before .before .before .before .before .before .test .ensures) ∙ (c .before .before .before .before .before .before .before .before .before .accepted .given .1)); room = sym (c .before .before .before .before .before .before .before .too-short .ensures) ∙ (c .before .before .before .before .before .before .if1 .left) }
+
+returns-2 : tie.Need-returns-2
+returns-2 c = turned-back _ _ _ (sym (c .before .before .before .test .ensures) ∙ (c .before .number .given .1))
+
+same-length : tie.Need-same-length
+same-length c = search needs
+
+same-length-2 : tie.Need-same-length-2
+same-length-2 c = search needs
+
+same-length-3 : tie.Need-same-length-3
+same-length-3 c = search needs
+
+same-length-4 : tie.Need-same-length-4
+same-length-4 c = search needs
+
+same-length-5 : tie.Need-same-length-5
+same-length-5 c = search needs
+
+same-length-6 : tie.Need-same-length-6
+same-length-6 c = search needs
+
+returns-3 : tie.Need-returns-3
+returns-3 c = accepted _ _ _ (sym (c .before .before .before .before .before .before .before .before .before .before .before .before .before .before .before .before .before .before .before .before .before .before .before .before .test .ensures) ∙ (c .before .before .before .before .before .before .before .before .before .before .before .before .before .before .before .before .before .before .before .before .before .before .accepted .given .1)) (sym (c .before .before .before .before .before .before .before .before .before .before .before .before .before .before .before .before .before .before .before .before .too-short .ensures) ∙ (c .before .before .before .before .before .before .before .before .before .before .before .before .before .before .before .before .before .before .before .if1 .left)) (c .before .before .before .before .before .before .before .before .before .before .before .before .report .ensures)
+
+pub check-spec : {M : Type 1} → statement M
+check-spec =
+    tie.close
+    (tie.spec
+    test-requires
+    enum-known-number
+    enum-known-accepted
+    too-short-requires
+    returns
+    report-requires
+    returns-2
+    same-length
+    same-length-2
+    same-length-3
+    same-length-4
+    same-length-5
+    same-length-6
+    returns-3)

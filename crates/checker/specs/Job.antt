@@ -1,0 +1,13 @@
+-- A job by its three texts, and the six lent buffers. Assumes nothing.
+use Prim.Native.Nat.{ℕ}
+use mathlib.Core.List.{List}
+use Rattle.csl.specs.Text.{Text}
+use Rattle.csl.specs.Lent.{Buffers}
+use Rattle.csl.specs.Refusal.{Job}
+
+abbrev pub job : (moves labels formula : Text) → Job
+job moves labels formula = record { moves = moves; labels = labels; formula = formula }
+
+abbrev pub buffers : (lower upper verdicts moves vectors marks : List ℕ) → Buffers (List ℕ)
+buffers lower upper verdicts moves vectors marks =
+    record { lower = lower; upper = upper; verdicts = verdicts; moves = moves; vectors = vectors; marks = marks }
