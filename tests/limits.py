@@ -84,6 +84,7 @@ def pairs():
         "formula bytes": (small(b"! " * 254 + b"gun"), small(b"! " * 255 + b"up")),
         "bytes of labels": (label_bytes(61_440), label_bytes(61_441)),
         "bytes of moves": (move_bytes(61_440), move_bytes(61_441)),
+        "another state": (moves_and(b"0,1,1"), moves_and(b"0,0,1")),
         "no state": ((SMALL_MOVES[:13], b"state\n0\n", b"tt\n"), (SMALL_MOVES[:13], b"state\n", b"tt\n")),
     }
 

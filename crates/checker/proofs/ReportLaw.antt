@@ -217,18 +217,18 @@ module _ {j : Job} {a : Accepted} {before : Buffers (List ℕ)} (r : ReportAsked
             record {
               deep = concluded .deep;
               each
-                = record {
-                  lowers
-                    = concluded .lowers ∙ ap (λ (n : ℕ). written (column (reportLower (jobChain j) (jobFormula j)) n) (before .lower)) states-are;
-                  uppers
-                    = concluded .uppers ∙ ap (λ (n : ℕ). written (column (reportUpper (jobChain j) (jobFormula j)) n) (before .upper)) states-are;
-                  bytes
-                    = concluded .bytes
-                    ∙ ap (λ (n : ℕ). written (column (λ s. verdictByte (found (jobChain j) (jobFormula j) s)) n) (before .verdicts)) states-are;
-                  moves = words-cleared ∙ ap (λ (n : ℕ). written (replicate n 0) (before .moves)) moves-are;
-                  vectors = vectors-cleared ∙ ap (λ (n : ℕ). written (replicate (10 * n + 512) 0) (before .vectors)) states-are;
-                  marks
-                    = marks-cleared ∙ ap (λ (n : ℕ). written (replicate (n * a .states) 0) (before .marks)) nodes-are
-                    ∙ ap (λ (n : ℕ). written (replicate (nodes (jobFormula j) * n) 0) (before .marks)) states-are;
-                };
+                  = record {
+                    lowers
+                        = concluded .lowers ∙ ap (λ (n : ℕ). written (column (reportLower (jobChain j) (jobFormula j)) n) (before .lower)) states-are;
+                    uppers
+                        = concluded .uppers ∙ ap (λ (n : ℕ). written (column (reportUpper (jobChain j) (jobFormula j)) n) (before .upper)) states-are;
+                    bytes
+                        = concluded .bytes
+                        ∙ ap (λ (n : ℕ). written (column (λ s. verdictByte (found (jobChain j) (jobFormula j) s)) n) (before .verdicts)) states-are;
+                    moves = words-cleared ∙ ap (λ (n : ℕ). written (replicate n 0) (before .moves)) moves-are;
+                    vectors = vectors-cleared ∙ ap (λ (n : ℕ). written (replicate (10 * n + 512) 0) (before .vectors)) states-are;
+                    marks
+                        = marks-cleared ∙ ap (λ (n : ℕ). written (replicate (n * a .states) 0) (before .marks)) nodes-are
+                        ∙ ap (λ (n : ℕ). written (replicate (nodes (jobFormula j) * n) 0) (before .marks)) states-are;
+                  };
             }

@@ -23,5 +23,5 @@ pub record ReportAsked (j : Job) (a : Accepted) (before : Buffers (List ℕ)) : 
 pub record Filled (j : Job) (before after : Buffers (List ℕ)) (d : ℕ) : Type 0 where
   pub deep : d ≡ depthOf (jobChain j) (jobFormula j)
   pub each
-    : EachFilled (jobStates j) (length (jobMoves j)) (nodes (jobFormula j)) (reportLower (jobChain j) (jobFormula j)) (reportUpper (jobChain j) (jobFormula j))
-    (found (jobChain j) (jobFormula j)) before after
+      : EachFilled (jobStates j) (length (jobMoves j)) (nodes (jobFormula j)) (reportLower (jobChain j) (jobFormula j)) (reportUpper (jobChain j) (jobFormula j))
+      (found (jobChain j) (jobFormula j)) before after

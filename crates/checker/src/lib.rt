@@ -55,10 +55,29 @@ pub fn check(
     match refusals::test(moves, labels, formula) {
         Tested::Refused(number) => Answer::Refused(number),
         Tested::Passed(accepted) => {
-            if refusals::too_short(accepted, lower.len(), upper.len(), verdicts.len(), words.len(), vectors.len(), marks.len()) {
+            if refusals::too_short(
+                accepted,
+                lower.len(),
+                upper.len(),
+                verdicts.len(),
+                words.len(),
+                vectors.len(),
+                marks.len(),
+            ) {
                 return Answer::Refused(15);
             }
-            Answer::Accepted(report(accepted, moves, labels, formula, lower, upper, verdicts, words, vectors, marks))
+            Answer::Accepted(report(
+                accepted,
+                moves,
+                labels,
+                formula,
+                lower,
+                upper,
+                verdicts,
+                words,
+                vectors,
+                marks,
+            ))
         }
     }
 }

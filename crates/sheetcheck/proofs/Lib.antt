@@ -1,0 +1,4 @@
+-- Laws behind the text for a job.
+mod Limits
+mod Lines
+mod Printing

@@ -1,0 +1,139 @@
+-- From a finished job and its rendering to the text that is printed. Assumes nothing.
+use mathlib.Core.Path.{_≡_, refl, ap, _∙_}
+use mathlib.Core.Bool.{true}
+use mathlib.Core.List.{List}
+use mathlib.Core.Option.{Option, none, some}
+use Prim.Native.Nat.{ℕ, _≤_, _<_}
+use native.Mathlib.Omega.{arith}
+use lib.ListN.{length}
+use lib.Dec.{leb}
+use borrow.Author.Tests.{le-leb}
+use Rattle.csl.specs.Text.{Text}
+use Rattle.csl.specs.Chain.{chainOf}
+use Rattle.csl.specs.Report.{reportText, refusalText, depthOf}
+use Rattle.csl.specs.Lent.{Buffers, lengths, verdictByte, column, written, filled}
+use Rattle.csl.specs.Refusal.{Job, jobStates, jobChain, jobFormula, textRefusal}
+use Rattle.csl.specs.Finished.{Answer, Accepted, TurnedBack, Finished, FinishedBy, answerText}
+use Rattle.csl.specs.Laws.Refusal.{passed, refused-by-texts, accepted-by-all}
+use Rattle.io.specs.Counts.{Counts}
+use Rattle.io.proofs.Counting.{counts}
+use Rattle.values.specs.Byte.{verdictAt, byte-read}
+use Rattle.labels.specs.Facts.{factsOf}
+use Rattle.results.specs.Column.{column-length, written-length, written-at}
+use Rattle.report.specs.declared.Rendered.{Rendered}
+use Rattle.report.specs.declared.Rendered.the-variants as rendered
+use Rattle.report.specs.Listing.{listing, entry, verdictIn}
+use Rattle.report.specs.Rendering.{isComplete, fits, Printed}
+use Rattle.sheetcheck.specs.Prints.{Prints, Answered, lengthOf}
+use Rattle.sheetcheck.proofs.Limits.{layout-right, states-few, none-short, number-within, depth-few, InRange, ends-in-range}
+use Rattle.sheetcheck.proofs.Lines.{report-few, refusal-few, report-agrees}
+
+-- the buffers that the program lends
+pub record Roomy (b : Buffers (List ℕ)) : Type 0 where
+  pub lowers : 512 ≤ length (b .lower)
+  pub uppers : 512 ≤ length (b .upper)
+  pub bytes : 512 ≤ length (b .verdicts)
+  pub words : 4096 ≤ length (b .moves)
+  pub vectors : 5632 ≤ length (b .vectors)
+  pub marks : 32768 ≤ length (b .marks)
+
+-- the rendering is the text for the job
+pub record TextFor (j : Job) (old new : List ℕ) (r : Rendered) : Type 0 where
+  pub text : Text
+  pub prints : Prints j text
+  pub answer : r ≡ rendered.Text (length text)
+  pub buffer : new ≡ written text old
+  pub fit : length text ≤ length old
+
+-- a text that fits
+fitting-text : (j : Job) (n : ℕ) (a : Answer) (l u b old new : List ℕ) (r : Rendered) (text : Text) → listing n a l u b ≡ text
+    → isComplete n a l u b ≡ true → length text ≤ length old → Prints j text → Printed n a l u b old new r → TextFor j old new r
+unfolding fits
+fitting-text j n a l u b old new r text e c h t p =
+    let f : fits (length old) n a l u b ≡ true = rw (c, e) (le-leb (length text) (length old) h) in
+    record { text = text; prints = t; answer = rw (f, e) at (p .answer); buffer = rw (f, e) at (p .buffer); fit = h }
+
+module _ (j : Job) (before after : Buffers (List ℕ)) (a : Answer) (n : ℕ) (old new : List ℕ) (r : Rendered) (big : 32768 ≤ length old)
+    (p : Printed n a (after .lower) (after .upper) (after .verdicts) old new r) where
+  -- a refusal
+  refusal-text : (k : ℕ) → textRefusal j ≡ some k → TurnedBack k before a after → TextFor j old new r
+  unfolding Prints answerText
+  refusal-text k e t =
+      fitting-text j n a (after .lower) (after .upper) (after .verdicts) old new r (refusalText k) (rw (t .answer) refl) (rw (t .answer) refl)
+      (omega (arith, refusal-few k (number-within j k e))) (rw e refl) p
+
+  -- a report
+  module _ (e : textRefusal j ≡ none) (here : n ≡ jobStates j) (lent : Roomy before)
+      (t : Accepted j (jobChain j) (jobFormula j) (depthOf (jobChain j) (jobFormula j)) before a after) where
+    few : n ≤ 512
+    few = omega (arith, states-few j (passed j e))
+
+    lower-is : after .lower ≡ written (column (t .lower) n) (before .lower)
+    unfolding filled
+    lower-is = rw (here, t .buffers) refl
+
+    upper-is : after .upper ≡ written (column (t .upper) n) (before .upper)
+    unfolding filled
+    upper-is = rw (here, t .buffers) refl
+
+    bytes-are : after .verdicts ≡ written (column (λ s. verdictByte (t .verdict s)) n) (before .verdicts)
+    unfolding filled
+    bytes-are = rw (here, t .buffers) refl
+
+    -- each buffer is as long as it was
+    kept : (f : ℕ → ℕ) (l k : List ℕ) → 512 ≤ length l → k ≡ written (column f n) l → leb n (length k) ≡ true
+    kept f l k h q =
+        le-leb n (length k)
+        (omega (arith, few, ap length q, column-length f n, written-length (column f n) l (omega (arith, few, column-length f n))))
+
+    all-there : isComplete n a (after .lower) (after .upper) (after .verdicts) ≡ true
+    all-there =
+        rw (
+          t .answer,
+          kept (t .lower) (before .lower) (after .lower) (lent .lowers) lower-is,
+          kept (t .upper) (before .upper) (after .upper) (lent .uppers) upper-is,
+          kept (λ s. verdictByte (t .verdict s)) (before .verdicts) (after .verdicts) (lent .bytes) bytes-are,
+        )
+
+    in-range : (s : ℕ) → s < n → InRange (t .lower s) (t .upper s)
+    unfolding chainOf
+    in-range s b = ends-in-range (jobChain j) (t .lower) (t .upper) (t .verdict) s (omega (arith, here)) (jobFormula j) (t .reported)
+
+    lines-are : listing n a (after .lower) (after .upper) (after .verdicts)
+        ≡ reportText n (t .lower) (t .upper) (depthOf (jobChain j) (jobFormula j)) (t .verdict)
+    unfolding answerText
+    lines-are =
+        rw (t .answer)
+        (report-agrees n (entry (after .lower)) (t .lower) (entry (after .upper)) (t .upper) (depthOf (jobChain j) (jobFormula j))
+        (verdictIn (after .verdicts)) (t .verdict)
+        (λ s b. rw lower-is (written-at (t .lower) n (before .lower) s b))
+        (λ s b. rw upper-is (written-at (t .upper) n (before .upper) s b))
+        (λ s b. rw bytes-are (ap verdictAt (written-at (λ k. verdictByte (t .verdict k)) n (before .verdicts) s b) ∙ byte-read (t .verdict s))))
+
+    report-text : TextFor j old new r
+    unfolding Prints
+    report-text =
+        fitting-text j n a (after .lower) (after .upper) (after .verdicts) old new r
+        (reportText n (t .lower) (t .upper) (depthOf (jobChain j) (jobFormula j)) (t .verdict)) lines-are all-there
+        (omega (arith, report-few n (t .lower) (t .upper) (depthOf (jobChain j) (jobFormula j)) (t .verdict) few in-range (depth-few j (passed j e))))
+        (rw e (record { lower = t .lower; upper = t .upper; verdict = t .verdict; reported = t .reported; lines = rw here refl })) p
+
+  -- either, where n is what is read of the labels
+  pub answer-text : Finished j before a after → n ≡ factsOf (j .labels) .states → Roomy before → TextFor j old new r
+  unfolding Finished FinishedBy factsOf
+  answer-text f s lent = go (textRefusal j) refl
+    where
+      go : (o : Option ℕ) → textRefusal j ≡ o → TextFor j old new r
+      go (some k) e = refusal-text k e (rw (refused-by-texts j (lengths before) k e) at f)
+      go none e =
+          let q = none-short j (passed j e) (lengths before) (lent .lowers) (lent .uppers) (lent .bytes) (lent .words) (lent .vectors) (lent .marks) in
+          report-text e (s ∙ rw (layout-right j (passed j e)) refl) lent (rw (accepted-by-all j (lengths before) e q) at f)
+
+-- the length that is answered is the text's
+pub text-answered : {j : Job} {old new : List ℕ} {r : Rendered} (k : ℕ) → TextFor j old new r → k ≡ lengthOf r
+    → Counts k new × Answered j old new k
+text-answered {old = old} k p e =
+    let q : k ≡ length (p .text) = e ∙ ap lengthOf (p .answer) in (
+      counts _ _ (omega (arith, p .fit, ap length (p .buffer), written-length (p .text) old (p .fit))),
+      record { text = p .text; prints = p .prints; count = q; buffer = p .buffer },
+    )

@@ -1,0 +1,80 @@
+-- `write_answer` meets its contract: what the checker promises, rendered. Assumes nothing.
+use native.Mathlib.Omega.{arith}
+use mathlib.Core.Path.{ap}
+use Rattle.labels.specs.declared.Facts.{Facts}
+use Rattle.sheetcheck.proofs.Printing.{answer-text, text-answered}
+use borrow.Author.Needs.{needs}
+use Rattle.sheetcheck.proofs.answer.write_answer.Statement.{statement}
+use Rattle.sheetcheck.proofs.answer.write_answer.Tie as tie
+
+slice-aggregate-check : tie.Need-slice-aggregate-check
+slice-aggregate-check c = search needs
+
+slice-aggregate-check-2 : tie.Need-slice-aggregate-check-2
+slice-aggregate-check-2 c = search needs
+
+slice-aggregate-check-3 : tie.Need-slice-aggregate-check-3
+slice-aggregate-check-3 c = search needs
+
+slice-aggregate-check-4 : tie.Need-slice-aggregate-check-4
+slice-aggregate-check-4 c = search needs
+
+slice-aggregate-check-5 : tie.Need-slice-aggregate-check-5
+slice-aggregate-check-5 c = search needs
+
+slice-aggregate-check-6 : tie.Need-slice-aggregate-check-6
+slice-aggregate-check-6 c = search needs
+
+check-requires : tie.Need-check-requires
+check-requires c κs = search needs
+
+read-requires : tie.Need-read-requires
+read-requires c κs = search needs
+
+slice-aggregate-render : tie.Need-slice-aggregate-render
+slice-aggregate-render c = search needs
+
+slice-aggregate-render-2 : tie.Need-slice-aggregate-render-2
+slice-aggregate-render-2 c = search needs
+
+slice-aggregate-render-3 : tie.Need-slice-aggregate-render-3
+slice-aggregate-render-3 c = search needs
+
+render-requires : tie.Need-render-requires
+render-requires c κs = search needs
+
+length-of-requires : tie.Need-length-of-requires
+length-of-requires c κs = search needs
+
+same-length : tie.Need-same-length
+same-length c = search needs
+
+returns : tie.Need-returns
+returns c =
+    let rendered = c .before .before .before in
+    let checked = rendered .before .before .before .before .before .before .before .before .before .before .before .before in
+    text-answered _
+    (answer-text _ _ _ _ _ _ _ _ (checked .before .before .before .before .before .before .before .before .before .before .before .pre) (rendered .render .ensures) (checked .check .ensures)
+    (ap (λ (f : Facts). f .states) (rendered .before .before .before .before .before .read .ensures))
+    (record { lowers = omega arith; uppers = omega arith; bytes = omega arith; words = omega arith; vectors = omega arith; marks = omega arith }))
+    (c .length-of .ensures)
+
+pub write-answer-spec : {M : Type 1} → statement M
+write-answer-spec =
+    tie.close
+    (tie.spec
+    slice-aggregate-check
+    slice-aggregate-check-2
+    slice-aggregate-check-3
+    slice-aggregate-check-4
+    slice-aggregate-check-5
+    slice-aggregate-check-6
+    check-requires
+    read-requires
+    slice-aggregate-render
+    slice-aggregate-render-2
+    slice-aggregate-render-3
+    render-requires
+    length-of-requires
+    same-length
+    returns)
