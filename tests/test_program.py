@@ -1,4 +1,4 @@
-"""The program against the second reckoning: made jobs, damaged jobs, and jobs at the limits."""
+"""The program against the second reckoning and document 01: made jobs, damaged jobs, jobs at the limits, bench values; how narrow it is, and its stack."""
 import random
 import resource
 import subprocess
@@ -11,15 +11,19 @@ from reckoning.judge import judge
 from reckoning.refusal import refusal
 from reckoning.report import read_report, refused
 from tests import limits
-from tests.jobs import damaged_job, random_job
+from tests.jobs import damaged_job, labels_text, moves_text, random_job
 
 ROOT = Path(__file__).resolve().parent.parent
 PROGRAM = ROOT / "target" / "bin" / "sheetcheck"
+DEEP = ROOT / "target" / "bin" / "deep_formulas"
 NAMES = ("moves.txt", "labels.txt", "formula.txt")
 DAMAGED = 3_000
 MADE = 300
-WIDEST = 4                  # billionths, where no operand state is undecided
+WIDEST = 3                  # billionths, where no operand state is undecided
 STACK = 1 << 20             # bytes that the program gets by with
+READING_STACK = 1 << 18     # and the readers
+HEAD = b"from,to,rate\n"
+SMALL = b"state,up,dead\n0,1,0\n1,0,1\n"
 
 
 def run(job, stack=None):
@@ -65,10 +69,36 @@ class Program(unittest.TestCase):
                         self.assertFalse(run(job, stack=STACK).startswith(b"refused"))
 
     def test_narrow(self):
-        rng = random.Random(3)
-        widths = [width for _ in range(MADE) for width in widths_of(until_job(rng))]
-        self.assertGreater(len(widths), MADE)
-        self.assertLessEqual(max(widths), WIDEST)
+        widest = max(width for job in narrow_jobs() for width in widths_of(job))
+        print(f"widest interval: {widest} billionths")
+        self.assertLessEqual(widest, WIDEST)
+
+    def test_bench_values(self):
+        """What document 01 says of jobs on its small sheet, and of the limits."""
+        def rows(formula, moves=b"0,1,500\n"):
+            return read_report(run((HEAD + moves, SMALL, formula)), 2)
+        self.assertEqual(run((HEAD + b"0,1,500\n", SMALL, b"P >= 1000000000 U 0 up dead\n")),
+                         b"state,lower,upper,depth,verdict\n0,0,0,40,no\n1,1000000000,1000000000,40,yes\n")
+        self.assertEqual([(row.depth, row.verdict) for row in rows(b"tt\n")], [(0, "yes")] * 2)
+        self.assertEqual([row.verdict for row in rows(b"& up ! dead\n")], ["yes", "no"])
+        first = rows(b"P <= 10000000 U 8 up dead\n")[0]
+        self.assertLessEqual(first.lower, 3_992_010)
+        self.assertGreaterEqual(first.upper, 3_992_011)
+        self.assertLessEqual(first.upper - first.lower, 168)
+        self.assertEqual((first.depth, first.verdict), (42, "yes"))
+        self.assertEqual({row.depth for row in rows(b"P < 1 U 1 up dead\n", b"0,1,64000000\n")}, {168})
+        self.assertEqual(run((HEAD + b"0,1,64000000\n", SMALL, b"P < 1 U 2 up dead\n")), refused(14))
+        still = rows(b"P < 1 U 8760 up dead\n", b"")
+        self.assertEqual([(row.lower, row.upper, row.depth) for row in still], [(0, 0, 40), (10**9, 10**9, 40)])
+        self.assertEqual(len(rows(b"! " * 15 + b"up\n")), 2)
+        self.assertEqual(run((HEAD + b"0,1,500\n", SMALL, b"! " * 16 + b"up\n")), refused(11))
+        self.assertEqual([row.verdict for row in rows(b"P >= 0 U 1 up dead\n")], ["yes"] * 2)
+
+    def test_stack_of_the_deepest_formulas(self):
+        limit = lambda: resource.setrlimit(resource.RLIMIT_STACK, (READING_STACK, READING_STACK))
+        told = subprocess.run([DEEP], stdout=subprocess.PIPE, check=True, preexec_fn=limit).stdout
+        self.assertEqual(set(told.split()), {b"ok"})
+        self.assertGreater(len(told.split()), 50)
 
 
 def refusal_number(job):
@@ -77,19 +107,31 @@ def refusal_number(job):
     return number if isinstance(number, int) else None
 
 
-def until_job(rng):
-    """A job whose formula is one `P` over two labels, at a load of up to 64."""
-    moves, labels, _ = random_job(rng)
-    name = rng.choice(labels.split(b"\n")[0].split(b",")[1:])
-    top = max((sum(int(line.split(b",")[2]) for line in lines) for lines in by_state(moves)), default=0)
-    most = min(8_760, 64_000_000 // top) if top else 8_760
-    return moves, labels, b"P < 500000000 U %d tt %s\n" % (rng.randint(0, most), name)
+def narrow_jobs():
+    """Lines at full load and stiff rings."""
+    for states in (2, 12, 40, 160):
+        yield line_job(states)
+    rng = random.Random(3)
+    for _ in range(40):
+        yield ring_job(rng, rng.randint(3, 20), rng.choice([1, 8, 720, 8_760]))
 
 
-def by_state(moves):
-    """The move lines out of each state."""
-    lines = moves.split(b"\n")[1:-1]
-    return [[line for line in lines if line.split(b",")[0] == state] for state in {line.split(b",")[0] for line in lines}]
+def line_job(states):
+    """A line at full load, from its first state to its last."""
+    moves = [(s, s + 1, 64_000_000) for s in range(states - 1)]
+    return moves_text(moves), ends_text(states), b"P < 500000000 U 1 tt last\n"
+
+
+def ring_job(rng, states, hours):
+    """A ring with rates from 1 up to what the hours allow."""
+    most = min(63_999_999, 64_000_000 // hours)
+    moves = sorted((s, (s + 1) % states, rng.choice([1, 7, most // 3 + 1, most])) for s in range(states))
+    return moves_text(moves), ends_text(states), b"P < 500000000 U %d tt last\n" % hours
+
+
+def ends_text(states):
+    """Labels whose one name marks the last state."""
+    return labels_text([b"last"], [[int(s == states - 1)] for s in range(states)])
 
 
 def widths_of(job):

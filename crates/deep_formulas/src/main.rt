@@ -1,0 +1,142 @@
+// The deepest formula texts, and a few small ones, through the survey, the builder and the tests: a line `ok` for each that comes out as
+// worked out by hand.
+use store::Kind;
+use store::Store;
+use store::Test;
+
+fn say(right: bool) {
+    if right {
+        io::write_all(1, b"ok\n");
+    } else {
+        io::write_all(1, b"no\n");
+    }
+}
+
+// The text is readable with so many nodes and levels.
+fn sized(text: &[u8], nodes: usize, levels: usize) {
+    let e = survey::survey(text);
+    say(e.readable && e.nodes == nodes && e.levels == levels);
+}
+
+// The text breaks the grammar.
+fn broken(text: &[u8]) {
+    let e = survey::survey(text);
+    say(!e.readable);
+}
+
+// The text's store has so many nodes, and passes the tests of labels, limits and load as told.
+fn tested(text: &[u8], count: usize, labels: bool, limits: bool, load: bool) {
+    let st = formula::build(text, b",up,dead");
+    say(st.count == count);
+    say(store::all_pass(st, Test::Labels(2)) == labels);
+    say(store::all_pass(st, Test::Limits) == limits);
+    say(store::all_pass(st, Test::Load(64000000)) == load);
+}
+
+// The outermost of the three nodes of the small sheet's formula.
+fn small() {
+    let st = formula::build(b"P >= 1000000000 U 0 up dead\n", b",up,dead");
+    let x = st.nodes[2];
+    let k = x.kind;
+    match k {
+        Kind::Until {
+            comparison: _,
+            threshold,
+            hours,
+            first,
+            second,
+        } => say(threshold == 1000000000 && hours == 0 && first == 1 && second == 0),
+        Kind::Always => say(false),
+        Kind::Label(_) => say(false),
+        Kind::Negated(_) => say(false),
+        Kind::Both(_, _) => say(false),
+    }
+}
+
+// 255 times `!` before a label; 127 times `&` before 128 labels.
+fn deepest() {
+    sized(
+        b"! ! ! ! ! ! ! ! ! ! ! ! ! ! ! ! ! ! ! ! ! ! ! ! ! ! ! ! ! ! ! ! ! ! ! ! ! ! ! ! ! ! ! ! ! ! ! ! ! ! ! ! ! ! ! ! ! ! ! ! ! ! ! ! ! ! ! ! ! ! ! ! ! ! ! ! ! ! ! ! ! ! ! ! ! ! ! ! ! ! ! ! ! ! ! ! ! ! ! ! ! ! ! ! ! ! ! ! ! ! ! ! ! ! ! ! ! ! ! ! ! ! ! ! ! ! ! ! ! ! ! ! ! ! ! ! ! ! ! ! ! ! ! ! ! ! ! ! ! ! ! ! ! ! ! ! ! ! ! ! ! ! ! ! ! ! ! ! ! ! ! ! ! ! ! ! ! ! ! ! ! ! ! ! ! ! ! ! ! ! ! ! ! ! ! ! ! ! ! ! ! ! ! ! ! ! ! ! ! ! ! ! ! ! ! ! ! ! ! ! ! ! ! ! ! ! ! ! ! ! ! ! ! ! ! ! ! ! ! ! ! ! ! ! ! ! ! ! ! ! ! ! ! ! ! a\n",
+        256,
+        256,
+    );
+    sized(
+        b"& & & & & & & & & & & & & & & & & & & & & & & & & & & & & & & & & & & & & & & & & & & & & & & & & & & & & & & & & & & & & & & & & & & & & & & & & & & & & & & & & & & & & & & & & & & & & & & & & & & & & & & & & & & & & & & & & & & & & & & & & & & & & & & a a a a a a a a a a a a a a a a a a a a a a a a a a a a a a a a a a a a a a a a a a a a a a a a a a a a a a a a a a a a a a a a a a a a a a a a a a a a a a a a a a a a a a a a a a a a a a a a a a a a a a a a a a a a a a a a a a a a a a a a a a a a a a a a\n",
+        255,
+        128,
+    );
+}
+
+// A grammar fault behind more than 64 nodes and 16 levels.
+fn deep_faults() {
+    broken(
+        b"! ! ! ! ! ! ! ! ! ! ! ! ! ! ! ! ! ! ! ! ! ! ! ! ! ! ! ! ! ! ! ! ! ! ! ! ! ! ! ! ! ! ! ! ! ! ! ! ! ! ! ! ! ! ! ! ! ! ! ! ! ! ! ! ! ! ! ! ! ! \n",
+    );
+    broken(
+        b"& & & & & & & & & & & & & & & & & & & & & & & & & & & & & & & & & a a a a a a a a a a a a a a a a a a a a a a a a a a a a a a a a a\n",
+    );
+}
+
+// Texts that break the grammar.
+fn wrong() {
+    broken(b"");
+    broken(b"\n");
+    broken(b"up");
+    broken(b"up\n\n");
+    broken(b"up \n");
+    broken(b" up\n");
+    broken(b"up  dead\n");
+}
+
+// More of them.
+fn wrong_numbers() {
+    broken(b"& up\n");
+    broken(b"abcdefghijklm\n");
+    broken(b"P < 01 U 1 up dead\n");
+    broken(b"P < 1 U 12345678901 up dead\n");
+    broken(b"! up\r\n");
+    broken(b"& up dead up\n");
+    broken(b"P < 1 V 1 up dead\n");
+}
+
+// Small formulas, accepted.
+fn plain() {
+    sized(b"tt\n", 1, 1);
+    sized(b"P < 9999999999 U 8 & a b ! tt\n", 6, 3);
+    small();
+    tested(b"& up ! dead\n", 4, true, true, true);
+    tested(b"! ! ! ! ! ! ! ! ! ! ! ! ! ! ! up\n", 16, true, true, true);
+}
+
+// Formulas that a later test turns back, and the deepest that none does.
+fn refused() {
+    tested(b"! ! ! ! ! ! ! ! ! ! ! ! ! ! ! ! up\n", 0, true, true, true);
+    tested(
+        b"& & & & & & & & & & & & & & & up up up up up up up up up up up up up up up up\n",
+        31,
+        true,
+        true,
+        true,
+    );
+    tested(
+        b"P < 1 U 1 P < 1 U 1 P < 1 U 1 P < 1 U 1 P < 1 U 1 P < 1 U 1 P < 1 U 1 P < 1 U 1 P < 1 U 1 P < 1 U 1 P < 1 U 1 P < 1 U 1 P < 1 U 1 P < 1 U 1 P < 1 U 1 up up up up up up up up up up up up up up up up\n",
+        31,
+        true,
+        true,
+        true,
+    );
+    tested(b"& gas up\n", 3, false, true, true);
+    tested(b"state\n", 1, false, true, true);
+    tested(b"P < 1 U 8761 up dead\n", 3, true, false, false);
+    tested(b"P < 1000000001 U 1 up dead\n", 3, true, false, true);
+    tested(b"! P < 1 U 2 up dead\n", 4, true, true, false);
+}
+
+fn main() {
+    deepest();
+    deep_faults();
+    wrong();
+    wrong_numbers();
+    plain();
+    refused();
+}
