@@ -4,6 +4,7 @@ use store::Kind;
 use store::Store;
 use store::Test;
 
+// A line for each thing that is tried.
 fn say(right: bool) {
     if right {
         io::write_all(1, b"ok\n");
@@ -132,6 +133,7 @@ fn refused() {
     tested(b"! P < 1 U 2 up dead\n", 4, true, true, false);
 }
 
+// All of them.
 fn main() {
     deepest();
     deep_faults();

@@ -37,6 +37,7 @@ pub fn row(t: &[u8], names: usize) -> Num
     }
 }
 
+// The lines after the first: how many, and whether their states are 0, 1, 2 and so on; or one of them is broken.
 pub enum Rows {
     Lines(usize, bool),
     Broken,
@@ -89,6 +90,7 @@ fn unended(layout: bool) -> Facts
     }
 }
 
+// The facts of a labels text, from its first line and its other lines.
 fn facts_of(head: bool, names: usize, first: usize, lines: Rows) -> Facts
     ensures { λ r. ⌜ r ≡ factsFrom head names first lines ⌝ }
 {
@@ -105,6 +107,7 @@ fn facts_of(head: bool, names: usize, first: usize, lines: Rows) -> Facts
     }
 }
 
+// The facts of a labels text.
 pub fn read(s: &[u8]) -> Facts
     ensures { λ r. ⌜ r ≡ factsOf (now (s .entry)) ⌝ }
 {

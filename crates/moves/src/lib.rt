@@ -79,6 +79,7 @@ fn greater(a: u64, b: u64) -> u64
 }
 
 impl Tally {
+    // Before the first line.
     pub fn new() -> Tally
         ensures { λ r. ⌜ r ≡ begun ⌝ }
     {
@@ -116,6 +117,7 @@ impl Tally {
     }
 }
 
+// The lines after the first: their tally, or one of them is broken.
 pub enum Tallied {
     Lines(Tally),
     Broken,
@@ -183,6 +185,7 @@ fn unless(test: bool, x: u64) -> u64
     if test { 0 } else { x }
 }
 
+// The facts of a moves text, from its first line and its other lines.
 fn facts_of(head: bool, lines: Tallied) -> Facts
     ensures { λ r. ⌜ r ≡ factsFrom head lines ⌝ }
 {
@@ -201,6 +204,7 @@ fn facts_of(head: bool, lines: Tallied) -> Facts
     }
 }
 
+// The facts of a moves text.
 pub fn read(s: &[u8], states: usize) -> Facts
     requires { ⌜ length (now s) ≤ sheetBytes ⌝ }
     ensures { λ r. ⌜ r ≡ factsOf states (now (s .entry)) ⌝ }

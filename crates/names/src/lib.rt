@@ -22,6 +22,7 @@ pub fn commas(s: &[u8]) -> usize
     n
 }
 
+// Whether all bytes are letters a to z.
 fn all_letters(w: &[u8]) -> bool
     ensures { λ r. ⌜ r ≡ every isLetter (now (w .entry)) ⌝ }
 {
@@ -131,6 +132,7 @@ pub fn place(line: &[u8], w: &[u8]) -> usize
     lookup(&line[n..], w)
 }
 
+// A count of commas, one more where the byte is a comma.
 fn comma_more(b: u8, n: usize) -> usize
     requires { ⌜ n < 18446744073709551615 ⌝ }
     ensures { λ r. ⌜ r ≡ commaMore b n ⌝ }
@@ -138,6 +140,7 @@ fn comma_more(b: u8, n: usize) -> usize
     if b == 44 { n + 1 } else { n }
 }
 
+// Whether a byte is a letter a to z.
 fn is_letter(b: u8) -> bool
     ensures { λ r. ⌜ r ≡ isLetter b ⌝ }
 {

@@ -3,6 +3,7 @@ ghost use mathlib.Core.Path.{_≡_};
 ghost use Prim.Native.Nat.{_<_};
 ghost use Rattle.packing.specs.Packed.{packed, wordFrom, wordTo, wordRate};
 
+// A move as one word.
 pub fn pack(from: u64, to: u64, rate: u64) -> u64
     requires { ⌜ (from < 10000000000) × (to < 10000000000) × (rate < 10000000000) ⌝ }
     ensures { λ r. ⌜ r ≡ packed from to rate ⌝ }
@@ -10,6 +11,7 @@ pub fn pack(from: u64, to: u64, rate: u64) -> u64
     rate * 262144 + from * 512 + to
 }
 
+// The state that a packed move leaves.
 pub fn from_of(word: u64) -> usize
     ensures { λ r. ⌜ r ≡ wordFrom word ⌝ }
     ensures within { λ r. ⌜ r < 512 ⌝ }
@@ -17,6 +19,7 @@ pub fn from_of(word: u64) -> usize
     (word / 512 % 512) as usize
 }
 
+// The state that it goes to.
 pub fn to_of(word: u64) -> usize
     ensures { λ r. ⌜ r ≡ wordTo word ⌝ }
     ensures within { λ r. ⌜ r < 512 ⌝ }
@@ -24,6 +27,7 @@ pub fn to_of(word: u64) -> usize
     (word % 512) as usize
 }
 
+// Its rate.
 pub fn rate_of(word: u64) -> u64
     ensures { λ r. ⌜ r ≡ wordRate word ⌝ }
 {

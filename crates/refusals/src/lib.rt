@@ -20,6 +20,7 @@ pub struct Accepted {
     pub nodes: usize,
 }
 
+// What the tests of the three texts answer: what the job has, or the number of the first test that holds.
 pub enum Tested {
     Passed(Accepted),
     Refused(u64),
@@ -31,6 +32,7 @@ pub enum FormulaTested {
     Wrong(u64),
 }
 
+// A number in 64 bits.
 fn wide(k: u8) -> u64
     ensures { λ r. ⌜ r ≡ k ⌝ }
 {

@@ -18,11 +18,13 @@ pub struct Sheet {
     pub top: u64,
 }
 
+// What conditions 1 to 9 answer: what the sheet has, or the number of the first that holds.
 pub enum Checked {
     Passed(Sheet),
     Refused(u8),
 }
 
+// Whether a text is empty or too long.
 fn bad_length(bytes: usize, most: usize) -> bool
     ensures { λ r. ⌜ r ≡ (eqb bytes 0 || ltb most bytes) ⌝ }
 {
@@ -66,6 +68,7 @@ fn judge(m: moves::Facts, l: labels::Facts) -> Checked
     })
 }
 
+// Conditions 1 to 9.
 pub fn check(moves: &[u8], labels: &[u8], formula: &[u8]) -> Checked
     ensures { λ r. ⌜ r ≡ checkedOf (record { moves = now (moves .entry); labels = now (labels .entry); formula = now (formula .entry) }) ⌝ }
 {

@@ -19,10 +19,12 @@ pub enum Kind {
     },
 }
 
+// A node of a formula.
 pub struct Node {
     pub kind: Kind,
 }
 
+// The nodes of a formula in a row; the first `count` are its own.
 pub struct Store {
     pub nodes: [Node; 64],
     pub count: usize,

@@ -35,6 +35,7 @@ pub const UNREADABLE: Extent = Extent {
     levels: 0,
 };
 
+// The larger of two counts.
 fn larger(a: usize, b: usize) -> usize
     ensures { λ r. ⌜ r ≡ max a b ⌝ }
 {

@@ -6,6 +6,7 @@ ghost use Rattle.csl.specs.Verdicts.{judged, judgedAtLeast, judgedMore};
 ghost use Rattle.csl.specs.Report.{lowerOf, upperOf};
 ghost use Rattle.values.specs.Paper.{verdictOf, comparisonOf, interval};
 
+// The two ends.
 pub struct Interval {
     pub lower: u32,
     pub upper: u32,

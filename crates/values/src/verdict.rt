@@ -5,6 +5,7 @@ ghost use Rattle.csl.specs.Lent.{verdictByte};
 ghost use Rattle.values.specs.Paper.{verdictOf};
 ghost use Rattle.values.specs.Byte.{verdictAt};
 
+// Yes, no or undecided.
 pub enum Verdict {
     No,
     Yes,
