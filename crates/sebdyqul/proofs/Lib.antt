@@ -1,0 +1,2 @@
+-- Laws behind the library's function.
+mod CalledLaw

@@ -1,0 +1,17 @@
+-- A job that was put by a caller in another language: a number and a stored depth stand for the answer. Assumes nothing.
+use mathlib.Core.Path.{_≡_}
+use mathlib.Core.List.{List}
+use Prim.Native.Nat.{ℕ, zero, suc, _<_}
+use Rattle.csl.specs.Lent.{Buffers}
+use Rattle.csl.specs.Refusal.{Job}
+use Rattle.csl.specs.Finished.{Answer, refusedWith, acceptedWith, Finished}
+
+-- 0 says accepted, with the depth that is stored; any other number is the refusal's
+abbrev pub answerFrom : (number depth : ℕ) → Answer
+answerFrom zero depth = acceptedWith depth
+answerFrom (suc k) depth = refusedWith (suc k)
+
+-- the job is finished as the paper has it, and a refusal leaves the depth as it was
+pub record Called (j : Job) (before : Buffers (List ℕ)) (old number new : ℕ) (after : Buffers (List ℕ)) : Type 0 where
+  pub finished : Finished j before (answerFrom number new) after
+  pub kept : 0 < number → new ≡ old

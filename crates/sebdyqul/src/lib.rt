@@ -1,0 +1,40 @@
+// The checker for programs in C, Rust and other languages: what `library/sebdyqul.h` declares.
+use values::Answer;
+ghost use Rattle.checker.specs.Job.{job, buffers};
+ghost use Rattle.sebdyqul.specs.Called.{Called};
+
+// Checks a job. An accepted job answers 0 and stores its depth; a refused one answers its number, and then neither the depth nor a buffer
+// has changed.
+#[no_mangle]
+pub extern "C" fn sebdyqul_check(
+    moves: &[u8],
+    labels: &[u8],
+    formula: &[u8],
+    lower: &mut [u32],
+    upper: &mut [u32],
+    verdicts: &mut [u8],
+    words: &mut [u64],
+    vectors: &mut [u64],
+    marks: &mut [u8],
+    depth: &mut u64,
+) -> u64
+    ensures { λ r. ⌜ Called (job (now (moves .entry)) (now (labels .entry)) (now (formula .entry))) (buffers (now (lower .entry)) (now (upper .entry)) (now (verdicts .entry)) (now (words .entry)) (now (vectors .entry)) (now (marks .entry))) (now (depth .entry)) r (now (depth .exit)) (buffers (now (lower .exit)) (now (upper .exit)) (now (verdicts .exit)) (now (words .exit)) (now (vectors .exit)) (now (marks .exit))) ⌝ }
+{
+    match checker::check(
+        moves,
+        labels,
+        formula,
+        lower,
+        upper,
+        verdicts,
+        words,
+        vectors,
+        marks,
+    ) {
+        Answer::Accepted(d) => {
+            *depth = d;
+            0
+        }
+        Answer::Refused(number) => number,
+    }
+}

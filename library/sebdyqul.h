@@ -1,0 +1,53 @@
+/* Sebdyqul as a library: one finished report or one refusal number for a job of three texts.
+ *
+ * Link with libsebdyqul.a (`rt staticlib sebdyqul` writes target/staticlib/libsebdyqul.a), on x86-64 Linux. The function needs no C
+ * library, keeps nothing between calls and allocates nothing, so that calls may run at the same time on buffers of their own. It needs
+ * less than 1 MB of stack.
+ *
+ * Proved of it (crates/sebdyqul): for all bytes of the texts and all lengths it does what document 01 says. Nothing checks the caller:
+ * each pointer leads to as many elements as the length after it says, is not null (any address does for a length of 0) and is aligned
+ * for its type, and none of the seven that are written to overlaps another or a text.
+ */
+#ifndef SEBDYQUL_H
+#define SEBDYQUL_H
+
+#include <stddef.h>
+#include <stdint.h>
+
+#ifdef __cplusplus
+extern "C" {
+#endif
+
+/* Lengths that are enough for every job. Of a job with n states, m move lines and k nodes in its formula the results need n elements
+ * each, the words m, the vectors 10 * n + 512 and the marks k * n; with less it is refused with 15. */
+#define SEBDYQUL_RESULTS 512
+#define SEBDYQUL_WORDS 4096
+#define SEBDYQUL_VECTORS 5632
+#define SEBDYQUL_MARKS 32768
+
+/* What a byte of `verdicts` says. */
+enum sebdyqul_verdict { SEBDYQUL_NO = 0, SEBDYQUL_YES = 1, SEBDYQUL_UNDECIDED = 2 };
+
+/* Checks a job: a moves text, a labels text and a formula, as bytes.
+ *
+ * Answers 0 where the job is accepted. Then `lower`, `upper` (billionths) and `verdicts` hold the report in their first n elements, `*depth`
+ * is the depth that its lines show, and the named lengths of `words`, `vectors` and `marks` hold 0; nothing beyond them has changed.
+ *
+ * Answers 1 to 15, the number of the refusal, otherwise. Then nothing has changed. */
+uint64_t sebdyqul_check(
+    const uint8_t *moves, size_t moves_length,
+    const uint8_t *labels, size_t labels_length,
+    const uint8_t *formula, size_t formula_length,
+    uint32_t *lower, size_t lower_length,
+    uint32_t *upper, size_t upper_length,
+    uint8_t *verdicts, size_t verdicts_length,
+    uint64_t *words, size_t words_length,
+    uint64_t *vectors, size_t vectors_length,
+    uint8_t *marks, size_t marks_length,
+    uint64_t *depth);
+
+#ifdef __cplusplus
+}
+#endif
+
+#endif
