@@ -24,7 +24,8 @@ use Rattle.report.specs.declared.Rendered.{Rendered}
 use Rattle.report.specs.declared.Rendered.the-variants as rendered
 use Rattle.report.specs.Listing.{listing, entry, verdictIn}
 use Rattle.report.specs.Rendering.{isComplete, fits, Printed}
-use Rattle.sheetcheck.specs.Prints.{Prints, Answered, lengthOf}
+use Rattle.sheetcheck.specs.declared.answer.Written.{Written}
+use Rattle.sheetcheck.specs.Prints.{Prints, Answered, lengthOf, numberIn, numberOr0}
 use Rattle.sheetcheck.proofs.Limits.{layout-right, states-few, none-short, number-within, depth-few, InRange, ends-in-range}
 use Rattle.sheetcheck.proofs.Lines.{report-few, refusal-few, report-agrees}
 
@@ -37,30 +38,32 @@ pub record Roomy (b : Buffers (List ℕ)) : Type 0 where
   pub vectors : 5632 ≤ length (b .vectors)
   pub marks : 32768 ≤ length (b .marks)
 
--- the rendering is the text for the job
-pub record TextFor (j : Job) (old new : List ℕ) (r : Rendered) : Type 0 where
+-- the rendering is the text for the job, and the answer has its number
+pub record TextFor (j : Job) (a : Answer) (old new : List ℕ) (r : Rendered) : Type 0 where
   pub text : Text
   pub prints : Prints j text
   pub answer : r ≡ rendered.Text (length text)
   pub buffer : new ≡ written text old
   pub fit : length text ≤ length old
+  pub number : numberIn a ≡ numberOr0 (textRefusal j)
 
 -- a text that fits
 fitting-text : (j : Job) (n : ℕ) (a : Answer) (l u b old new : List ℕ) (r : Rendered) (text : Text) → listing n a l u b ≡ text
-    → isComplete n a l u b ≡ true → length text ≤ length old → Prints j text → Printed n a l u b old new r → TextFor j old new r
+    → isComplete n a l u b ≡ true → length text ≤ length old → Prints j text → numberIn a ≡ numberOr0 (textRefusal j) → Printed n a l u b old new r
+    → TextFor j a old new r
 unfolding fits
-fitting-text j n a l u b old new r text e c h t p =
+fitting-text j n a l u b old new r text e c h t k p =
     let f : fits (length old) n a l u b ≡ true = rw (c, e) (le-leb (length text) (length old) h) in
-    record { text = text; prints = t; answer = rw (f, e) at (p .answer); buffer = rw (f, e) at (p .buffer); fit = h }
+    record { text = text; prints = t; answer = rw (f, e) at (p .answer); buffer = rw (f, e) at (p .buffer); fit = h; number = k }
 
 module _ (j : Job) (before after : Buffers (List ℕ)) (a : Answer) (n : ℕ) (old new : List ℕ) (r : Rendered) (big : 32768 ≤ length old)
     (p : Printed n a (after .lower) (after .upper) (after .verdicts) old new r) where
   -- a refusal
-  refusal-text : (k : ℕ) → textRefusal j ≡ some k → TurnedBack k before a after → TextFor j old new r
+  refusal-text : (k : ℕ) → textRefusal j ≡ some k → TurnedBack k before a after → TextFor j a old new r
   unfolding Prints answerText
   refusal-text k e t =
       fitting-text j n a (after .lower) (after .upper) (after .verdicts) old new r (refusalText k) (rw (t .answer) refl) (rw (t .answer) refl)
-      (omega (arith, refusal-few k (number-within j k e))) (rw e refl) p
+      (omega (arith, refusal-few k (number-within j k e))) (rw e refl) (rw (t .answer, e) refl) p
 
   -- a report
   module _ (e : textRefusal j ≡ none) (here : n ≡ jobStates j) (lent : Roomy before)
@@ -110,30 +113,30 @@ module _ (j : Job) (before after : Buffers (List ℕ)) (a : Answer) (n : ℕ) (o
         (λ s b. rw upper-is (written-at (t .upper) n (before .upper) s b))
         (λ s b. rw bytes-are (ap verdictAt (written-at (λ k. verdictByte (t .verdict k)) n (before .verdicts) s b) ∙ byte-read (t .verdict s))))
 
-    report-text : TextFor j old new r
+    report-text : TextFor j a old new r
     unfolding Prints
     report-text =
         fitting-text j n a (after .lower) (after .upper) (after .verdicts) old new r
         (reportText n (t .lower) (t .upper) (depthOf (jobChain j) (jobFormula j)) (t .verdict)) lines-are all-there
         (omega (arith, report-few n (t .lower) (t .upper) (depthOf (jobChain j) (jobFormula j)) (t .verdict) few in-range (depth-few j (passed j e))))
-        (rw e (record { lower = t .lower; upper = t .upper; verdict = t .verdict; reported = t .reported; lines = rw here refl })) p
+        (rw e (record { lower = t .lower; upper = t .upper; verdict = t .verdict; reported = t .reported; lines = rw here refl })) (rw (t .answer, e) refl) p
 
   -- either, where n is what is read of the labels
-  pub answer-text : Finished j before a after → n ≡ factsOf (j .labels) .states → Roomy before → TextFor j old new r
+  pub answer-text : Finished j before a after → n ≡ factsOf (j .labels) .states → Roomy before → TextFor j a old new r
   unfolding Finished FinishedBy factsOf
   answer-text f s lent = go (textRefusal j) refl
     where
-      go : (o : Option ℕ) → textRefusal j ≡ o → TextFor j old new r
+      go : (o : Option ℕ) → textRefusal j ≡ o → TextFor j a old new r
       go (some k) e = refusal-text k e (rw (refused-by-texts j (lengths before) k e) at f)
       go none e =
           let q = none-short j (passed j e) (lengths before) (lent .lowers) (lent .uppers) (lent .bytes) (lent .words) (lent .vectors) (lent .marks) in
           report-text e (s ∙ rw (layout-right j (passed j e)) refl) lent (rw (accepted-by-all j (lengths before) e q) at f)
 
--- the length that is answered is the text's
-pub text-answered : {j : Job} {old new : List ℕ} {r : Rendered} (k : ℕ) → TextFor j old new r → k ≡ lengthOf r
-    → Counts k new × Answered j old new k
-text-answered {old = old} k p e =
-    let q : k ≡ length (p .text) = e ∙ ap lengthOf (p .answer) in (
+-- what is answered: the text's length and the number
+pub text-answered : {j : Job} {a : Answer} {old new : List ℕ} {r : Rendered} (w : Written) → TextFor j a old new r → w .length ≡ lengthOf r
+    → w .number ≡ numberIn a → Counts (w .length) new × Answered j old new w
+text-answered {old = old} w p e k =
+    let q : w .length ≡ length (p .text) = e ∙ ap lengthOf (p .answer) in (
       counts _ _ (omega (arith, p .fit, ap length (p .buffer), written-length (p .text) old (p .fit))),
-      record { text = p .text; prints = p .prints; count = q; buffer = p .buffer },
+      record { text = p .text; prints = p .prints; count = q; number = k ∙ p .number; buffer = p .buffer },
     )

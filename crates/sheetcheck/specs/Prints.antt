@@ -9,8 +9,10 @@ use Rattle.csl.specs.Verdicts.{Verdict}
 use Rattle.csl.specs.Report.{Reported, reportText, refusalText, depthOf}
 use Rattle.csl.specs.Lent.{written}
 use Rattle.csl.specs.Refusal.{Job, jobStates, jobChain, jobFormula, textRefusal}
+use Rattle.csl.specs.Finished.{Answer, refusedWith, acceptedWith}
 use Rattle.report.specs.declared.Rendered.{Rendered}
 use Rattle.report.specs.declared.Rendered.the-variants as rendered
+use Rattle.sheetcheck.specs.declared.answer.Written.{Written}
 
 -- the text is a report that has a backing
 pub record PrintsReport (j : Job) (text : Text) : Type 0 where
@@ -28,14 +30,25 @@ PrintsBy j none text = PrintsReport j text
 unfoldable pub Prints : Job → Text → Type 0
 Prints j text = PrintsBy j (textRefusal j) text
 
--- the text for a job stands at the front of a buffer, whose other bytes are as they were, and its length is answered
-pub record Answered (j : Job) (old new : List ℕ) (r : ℕ) : Type 0 where
+-- the number of a refusal, 0 where there is none
+abbrev pub numberOr0 : Option ℕ → ℕ
+numberOr0 (some number) = number
+numberOr0 none = 0
+
+-- the text for a job stands at the front of a buffer, whose other bytes are as they were; its length and the refusal's number are answered
+pub record Answered (j : Job) (old new : List ℕ) (r : Written) : Type 0 where
   pub text : Text
   pub prints : Prints j text
-  pub count : r ≡ length text
+  pub count : r .length ≡ length text
+  pub number : r .number ≡ numberOr0 (textRefusal j)
   pub buffer : new ≡ written text old
 
 -- how long a rendered text is; 0 where there was no room for it
 abbrev pub lengthOf : Rendered → ℕ
 lengthOf (rendered.Text k) = k
 lengthOf rendered.Short = 0
+
+-- the number of a refusal; 0 where the job is accepted
+abbrev pub numberIn : Answer → ℕ
+numberIn (refusedWith number) = number
+numberIn (acceptedWith d) = 0

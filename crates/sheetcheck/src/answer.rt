@@ -1,17 +1,27 @@
 // The text that is printed for a job.
 use report::Rendered;
+use values::Answer;
 ghost use mathlib.Core.Path.{_≡_};
 ghost use Prim.Native.Nat.{_≤_};
 ghost use lib.ListN.{length};
 ghost use Rattle.io.specs.Counts.{Counts};
+ghost use Rattle.values.specs.Paper.{answerOf};
 ghost use Rattle.checker.specs.Job.{job};
-ghost use Rattle.sheetcheck.specs.Prints.{Answered, lengthOf};
+ghost use Rattle.sheetcheck.specs.Prints.{Answered, lengthOf, numberIn};
 
-// Writes what the program prints for three texts to the front of `out`, and answers how many bytes that is. The buffers that it lends are long
-// enough for every job, so that no job is refused for them.
-pub fn write_answer(moves: &[u8], labels: &[u8], formula: &[u8], out: &mut [u8]) -> usize
+// What was written for a job.
+pub struct Written {
+    // How many bytes.
+    pub length: usize,
+    // The number that the job is refused with, 0 where the bytes are its report.
+    pub number: u64,
+}
+
+// Writes what the program prints for three texts to the front of `out`. The buffers that it lends are long enough for every job, so that no
+// job is refused for them.
+pub fn write_answer(moves: &[u8], labels: &[u8], formula: &[u8], out: &mut [u8]) -> Written
     requires { ⌜ 32768 ≤ length (now out) ⌝ }
-    ensures { λ r. ⌜ Counts r (now (out .exit)) ⌝ }
+    ensures { λ r. ⌜ Counts (r .length) (now (out .exit)) ⌝ }
     ensures answered { λ r. ⌜ Answered (job (now (moves .entry)) (now (labels .entry)) (now (formula .entry))) (now (out .entry)) (now (out .exit)) r ⌝ }
 {
     let mut lower = [0u32; 512];
@@ -32,7 +42,11 @@ pub fn write_answer(moves: &[u8], labels: &[u8], formula: &[u8], out: &mut [u8])
         &mut marks,
     );
     let facts = labels::read(labels);
-    length_of(report::render(out, facts.states, answer, &lower, &upper, &verdicts))
+    let rendered = report::render(out, facts.states, answer, &lower, &upper, &verdicts);
+    Written {
+        length: length_of(rendered),
+        number: number_in(answer),
+    }
 }
 
 // How long a rendered text is; 0 where there was no room for it.
@@ -42,5 +56,15 @@ fn length_of(rendered: Rendered) -> usize
     match rendered {
         Rendered::Text(length) => length,
         Rendered::Short => 0,
+    }
+}
+
+// The number of a refusal; 0 where the job is accepted.
+fn number_in(answer: Answer) -> u64
+    ensures { λ r. ⌜ r ≡ numberIn (answerOf answer) ⌝ }
+{
+    match answer {
+        Answer::Accepted(_) => 0,
+        Answer::Refused(number) => number,
     }
 }

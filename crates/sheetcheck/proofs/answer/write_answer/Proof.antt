@@ -46,18 +46,21 @@ render-requires c κs = search needs
 length-of-requires : tie.Need-length-of-requires
 length-of-requires c κs = search needs
 
+number-in-requires : tie.Need-number-in-requires
+number-in-requires c κs = search needs
+
 same-length : tie.Need-same-length
 same-length c = search needs
 
 returns : tie.Need-returns
 returns c =
-    let rendered = c .before .before .before in
+    let rendered = c .before .before .before .before in
     let checked = rendered .before .before .before .before .before .before .before .before .before .before .before .before in
     text-answered _
     (answer-text _ _ _ _ _ _ _ _ (checked .before .before .before .before .before .before .before .before .before .before .before .pre) (rendered .render .ensures) (checked .check .ensures)
     (ap (λ (f : Facts). f .states) (rendered .before .before .before .before .before .read .ensures))
     (record { lowers = omega arith; uppers = omega arith; bytes = omega arith; words = omega arith; vectors = omega arith; marks = omega arith }))
-    (c .length-of .ensures)
+    (c .before .length-of .ensures) (c .number-in .ensures)
 
 pub write-answer-spec : {M : Type 1} → statement M
 write-answer-spec =
@@ -76,5 +79,6 @@ write-answer-spec =
     slice-aggregate-render-3
     render-requires
     length-of-requires
+    number-in-requires
     same-length
     returns)
