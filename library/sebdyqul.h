@@ -1,8 +1,8 @@
 /* Sebdyqul as a library: one finished report or one refusal number for a job of three texts.
  *
- * Link with libsebdyqul.a (`rt staticlib sebdyqul` writes target/staticlib/libsebdyqul.a), on x86-64 Linux. The function needs no C
- * library, keeps nothing between calls and allocates nothing, so that calls may run at the same time on buffers of their own. It needs
- * less than 1 MB of stack.
+ * Link with libsebdyqul.a (`rt staticlib sebdyqul` writes target/staticlib/libsebdyqul.a), on x86-64 Linux. Of the C library it
+ * needs memcpy and memset alone. The function keeps nothing between calls and allocates nothing, so that calls may run at the same time
+ * on buffers of their own.
  *
  * Proved of it (crates/sebdyqul): for all bytes of the texts and all lengths it does what document 01 says. Nothing checks the caller:
  * each pointer leads to as many elements as the length after it says, is not null (any address does for a length of 0) and is aligned
