@@ -86,35 +86,15 @@ pub fn decide(
             marks::join_rows(marks, slot, slot + 1, slot, n);
         }
         Kind::Until {
-            comparison,
+            comparison: sign,
             threshold,
             hours,
-            first,
-            second,
+            first: a,
+            second: b,
         } => {
-            decide(store, first, depth - 1, moves, vectors, marks, slot, n, q);
-            decide(
-                store,
-                second,
-                depth - 1,
-                moves,
-                vectors,
-                marks,
-                slot + 1,
-                n,
-                q,
-            );
-            until_node(
-                moves,
-                vectors,
-                marks,
-                slot,
-                n,
-                q,
-                hours,
-                comparison,
-                threshold,
-            );
+            decide(store, a, depth - 1, moves, vectors, marks, slot, n, q);
+            decide(store, b, depth - 1, moves, vectors, marks, slot + 1, n, q);
+            until_node(moves, vectors, marks, slot, n, q, hours, sign, threshold);
         }
     }
 }
