@@ -1,0 +1,99 @@
+"""The command `./sheetcheck`: what it prints and what it says, the samples in the README, and the README's picture."""
+import re
+import subprocess
+import tempfile
+import unittest
+from pathlib import Path
+
+from reckoning.refusal import refusal
+from reckoning.report import refused
+from tests.limits import SMALL_LABELS, SMALL_MOVES, load, moves, moves_and, small
+
+ROOT = Path(__file__).resolve().parent.parent
+NAMES = ("moves.txt", "labels.txt", "formula.txt")
+SAMPLE = re.compile(r"^    \$ (\./sheetcheck \S+)\n((?:    .+\n)+)", re.MULTILINE)
+DRAWN = re.compile(r"^    (tools/curve .*) --out (docs/\S+\.svg)$", re.MULTILINE)
+SAID = re.compile(r"sheetcheck: refused, since [a-z].*\.\n")
+
+# For each number that three texts can be refused with, the example that document 01 gives beside it.
+TURNED_BACK = {
+    1: (SMALL_MOVES, SMALL_LABELS, b""),
+    2: moves_and(b"0,1"),
+    3: (SMALL_MOVES, b"state,up,up\n0,1,0\n1,0,1\n", b"tt\n"),
+    4: (SMALL_MOVES, b"state,up\n1,0\n", b"tt\n"),
+    5: moves(4097),
+    6: moves_and(b"0,9,5"),
+    7: moves_and(b"0,0,5"),
+    8: moves_and(b"1,0,5\n0,1,5"),
+    9: moves_and(b"0,1,0"),
+    10: small(b"& up"),
+    11: small(b"! " * 16 + b"up"),
+    12: small(b"gas"),
+    13: small(b"P < 1 U 8761 up dead"),
+    14: load(64_000_000, 2),
+}
+
+
+def command(folder):
+    """What the command prints for a folder and what it says."""
+    done = subprocess.run([ROOT / "sheetcheck", folder], cwd=ROOT, capture_output=True, check=True)
+    return done.stdout, done.stderr.decode()
+
+
+def command_on(job):
+    with tempfile.TemporaryDirectory() as folder:
+        for name, text in zip(NAMES, job):
+            (Path(folder) / name).write_bytes(text)
+        return command(folder)
+
+
+class Command(unittest.TestCase):
+    def test_says_what_each_number_means(self):
+        said = {}
+        for number, job in TURNED_BACK.items():
+            with self.subTest(number):
+                self.assertEqual(refusal(*job), number)
+                printed, said[number] = command_on(job)
+                self.assertEqual(printed, refused(number))
+                self.assertRegex(said[number], SAID)
+        self.assertEqual(len(set(said.values())), 14)
+
+    def test_says_nothing_of_a_report(self):
+        printed, said = command("examples/small")
+        self.assertTrue(printed.startswith(b"state,lower,upper,depth,verdict\n"))
+        self.assertEqual(said, "")
+
+    def test_wants_one_folder(self):
+        for arguments in ([], ["examples/small", "docs"]):
+            done = subprocess.run([ROOT / "sheetcheck", *arguments], cwd=ROOT, capture_output=True)
+            self.assertEqual((done.returncode, done.stdout), (2, b""))
+            self.assertIn(b"usage", done.stderr)
+
+
+class Readme(unittest.TestCase):
+    text = (ROOT / "README.md").read_text()
+
+    def test_samples(self):
+        samples = SAMPLE.findall(self.text)
+        self.assertGreaterEqual(len(samples), 2)
+        for line, shown in samples:
+            with self.subTest(line):
+                printed, said = command(line.split()[1])
+                self.assertEqual(re.sub("(?m)^    ", "", shown), printed.decode() + said)
+
+    def test_picture(self):
+        """The picture is what the command above it draws."""
+        line, picture = DRAWN.search(self.text).groups()
+        drawn = subprocess.run(["bash", "-c", line], cwd=ROOT, capture_output=True, text=True, check=True).stdout
+        self.assertEqual(drawn, (ROOT / picture).read_text())
+        self.assertIn(f"]({picture})", self.text)
+
+    def test_names_what_is_there(self):
+        """Each file, folder or command that the README names in quotes is in the repository."""
+        for path in re.findall(r"`((?:crates|docs|examples|library|bench|tests|tools)/[^ `*]*)", self.text):
+            with self.subTest(path):
+                self.assertTrue((ROOT / path).exists())
+
+
+if __name__ == "__main__":
+    unittest.main()
