@@ -1,7 +1,7 @@
 -- The ends and verdicts that the checker finds, as functions of the chain and the formula alone; and that they are a backing. So every
 -- job whose loads are in range has a report: the rules nowhere contradict each other. Assumes nothing.
 use mathlib.Core.Path.{_≡_, refl, ap}
-use mathlib.Core.Bool.{Bool, true, false, cond, _&&_, false≢true}
+use mathlib.Core.Bool.{Bool, true, false, cond, _&&_, and-eq-true-iff}
 use Prim.Native.Nat.{ℕ, _*_, _-_, _/_, _≤_, _<_}
 use native.Mathlib.Omega.{arith}
 use lib.Dec.{leb, eqb}
@@ -96,10 +96,6 @@ until-backed c r p t a b small h k =
       verdict = λ s l. refl;
     }
 
-both-true : (a b : Bool) → (a && b) ≡ true → (a ≡ true) × (b ≡ true)
-both-true true b h = (refl, h)
-both-true false b h = absurd (false≢true h)
-
 -- a formula whose untils pass a test that bounds their depths
 module _ (c : Chain) (test : ℕ → ℕ → Bool) (small : (p t : ℕ) → test p t ≡ true → depth c t ≤ mostDepth) where
   pub found-backed : (f : Formula) → untilsPass test f ≡ true → Backed c f (found c f)
@@ -108,11 +104,11 @@ module _ (c : Chain) (test : ℕ → ℕ → Bool) (small : (p t : ℕ) → test
   found-backed (label name) h = λ s l. refl
   found-backed (negated a) h = backed-not c a (found c a) _ (found-backed a h) (λ s l. refl)
   found-backed (both a b) h =
-      let k : (untilsPass test a ≡ true) × (untilsPass test b ≡ true) = both-true _ _ h in
+      let k : (untilsPass test a ≡ true) × (untilsPass test b ≡ true) = and-eq-true-iff _ _ .0 h in
       backed-both c a b (found c a) (found c b) _ (found-backed a (k .0)) (found-backed b (k .1)) (λ s l. refl)
   found-backed (until r p t a b) h =
-      let k : ((test p t && untilsPass test a) ≡ true) × (untilsPass test b ≡ true) = both-true _ _ h in
-      let j : (test p t ≡ true) × (untilsPass test a ≡ true) = both-true _ _ (k .0) in
+      let k : ((test p t && untilsPass test a) ≡ true) × (untilsPass test b ≡ true) = and-eq-true-iff _ _ .0 h in
+      let j : (test p t ≡ true) × (untilsPass test a ≡ true) = and-eq-true-iff _ _ .0 (k .0) in
       record {
         lower = lowerFound c t (found c a) (found c b);
         upper = upperFound c t (found c a) (found c b);
@@ -126,8 +122,8 @@ module _ (c : Chain) (test : ℕ → ℕ → Bool) (small : (p t : ℕ) → test
   found-reported (negated a) h = record { backed = found-backed (negated a) h; lowers = λ s l. refl; uppers = λ s l. refl }
   found-reported (both a b) h = record { backed = found-backed (both a b) h; lowers = λ s l. refl; uppers = λ s l. refl }
   found-reported (until r p t a b) h =
-      let k : ((test p t && untilsPass test a) ≡ true) × (untilsPass test b ≡ true) = both-true _ _ h in
-      let j : (test p t ≡ true) × (untilsPass test a ≡ true) = both-true _ _ (k .0) in
+      let k : ((test p t && untilsPass test a) ≡ true) × (untilsPass test b ≡ true) = and-eq-true-iff _ _ .0 h in
+      let j : (test p t ≡ true) × (untilsPass test a ≡ true) = and-eq-true-iff _ _ .0 (k .0) in
       until-backed c r p t a b (small p t (j .0)) (found-backed a (j .1)) (found-backed b (k .1))
 
 -- "q × t over 64,000,000 for some until" is turned back

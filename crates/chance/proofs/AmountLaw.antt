@@ -2,12 +2,11 @@
 use mathlib.Core.Path.{_≡_, refl, sym, _∙_, ap}
 use Prim.Native.Nat.{ℕ, suc}
 use native.Mathlib.Omega.{arith}
-use mathlib.Core.Bool.{Bool, true, false, cond, not, _&&_}
+use mathlib.Core.Bool.{Bool, true, false, cond, _&&_, and-eq-true-iff}
 use mathlib.Core.List.{[], _∷_}
 use lib.ListN.{length}
-use lib.Dec.{leb}
 use Rattle.csl.specs.Text.{Text, every}
-use Rattle.csl.specs.Number.{isDigit, zeroLed, isNumber, valueOf}
+use Rattle.csl.specs.Number.{isDigit, isNumber, valueOf}
 use Rattle.texts.specs.Digits.{digitRun, numberAt, usedBy}
 use Rattle.texts.specs.declared.Num.{Num}
 use Rattle.texts.specs.declared.Num.the-variants.{Value, Bad}
@@ -36,11 +35,7 @@ run-long (b ∷ w) e = go (isDigit b) e (run-long w)
 
 number-digits : (w : Text) → isNumber 10 w ≡ true → every isDigit w ≡ true
 unfolding isNumber
-number-digits w e = go (every isDigit w) (leb 1 (length w)) (leb (length w) 10) (not (zeroLed w)) e
-  where
-    go : (p q r t : Bool) → (p && q && r && t) ≡ true → p ≡ true
-    go true q r t e = refl
-    go false q r t e = e
+number-digits w e = and-eq-true-iff _ _ .0 (and-eq-true-iff _ _ .0 (and-eq-true-iff _ _ .0 e .0) .0) .0
 
 -- a number as a whole token is read whole
 number-read : (w : Text) → isNumber 10 w ≡ true → numberAt 10 w ≡ Value (valueOf w) (length w)

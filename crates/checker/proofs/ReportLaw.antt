@@ -1,5 +1,5 @@
 -- The report of a job that passed all tests, from step to step. Assumes nothing.
-use mathlib.Core.Path.{_≡_, refl, sym, ap, subst, _∙_}
+use mathlib.Core.Path.{_≡_, sym, ap, _∙_}
 use mathlib.Core.List.{List}
 use Prim.Native.Nat.{ℕ, _+_, _-_, _*_, _≤_, _<_}
 use native.Mathlib.Omega.{arith}
@@ -10,12 +10,12 @@ use Rattle.csl.specs.Text.{Text}
 use Rattle.csl.specs.Limits.{mostLevels}
 use Rattle.csl.specs.Line.{lineFeed, comma}
 use Rattle.csl.specs.Labels.{namesOf}
-use Rattle.csl.specs.Formula.{Formula, nodes, levels}
+use Rattle.csl.specs.Formula.{nodes, levels}
 use Rattle.csl.specs.Grammar.{readFormula}
 use Rattle.csl.specs.Chain.{chainOf}
-use Rattle.csl.specs.Verdicts.{Verdict}
 use Rattle.csl.specs.Lent.{Buffers, lengths, verdictByte, column, written}
 use Rattle.csl.specs.Refusal.{Job, jobStates, jobMoves, jobChain, jobFormula}
+use Rattle.csl.specs.Laws.Accepted.{known-labels, bounds-kept, loads-kept}
 use Rattle.bounds.specs.Found.{found, reportLower, reportUpper}
 use Rattle.texts.specs.Span.{spanOf}
 use Rattle.tokens.specs.Behind.{partsBehind}
@@ -30,7 +30,6 @@ use Rattle.refusals.specs.Tested.{acceptedOf}
 use Rattle.refusals.specs.Kept.{Held, held, passed-is, accepted-is}
 use Rattle.refusals.specs.declared.Accepted.{Accepted}
 use Rattle.prepare.specs.Asked.{PrepareAsked, Prepared}
-use Rattle.prepare.specs.Accepted.{known-labels, bounds-kept, loads-kept}
 use Rattle.decide.specs.Asked.{Asked, Decided}
 use Rattle.conclude.specs.Concluded.{ConcludeAsked, Concluded}
 use Rattle.checker.specs.Job.{buffers}

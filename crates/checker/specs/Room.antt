@@ -1,6 +1,6 @@
 -- Buffers that are not too short, and buffers that differ only where zeros are written. Assumes nothing.
 use mathlib.Core.Path.{_≡_, sym, ap, _∙_}
-use mathlib.Core.Bool.{false, _||_}
+use mathlib.Core.Bool.{false}
 use mathlib.Core.List.{List, _++_}
 use Prim.Native.Nat.{ℕ, _+_, _-_, _*_, _≤_}
 use native.Mathlib.Omega.{arith}
@@ -10,8 +10,8 @@ use lib.Dec.{ltb}
 use borrow.Author.Tests.{ltb-false}
 use Rattle.csl.specs.Text.{any}
 use Rattle.csl.specs.Lent.{Buffers, needed, rooms, isShort, written}
+use Rattle.csl.specs.Laws.Refusal.{neither}
 use Rattle.rows.specs.Words.{at}
-use Rattle.refusals.specs.Sides.{or-left, or-right}
 
 -- "lower and upper numbers and verdict bytes, n of each; move words of m; vector words of 10 × n + 512; mark bytes of nodes × n"
 pub record HasRoom (n m k : ℕ) (l : Buffers ℕ) : Type 0 where
@@ -25,18 +25,19 @@ pub record HasRoom (n m k : ℕ) (l : Buffers ℕ) : Type 0 where
 pub has-room : (l : Buffers ℕ) (n m k : ℕ) → isShort l (needed n m k) ≡ false → HasRoom n m k l
 unfolding isShort any rooms
 has-room l n m k h =
-    let h1 = or-right (ltb (l .lower) n) _ h in
-    let h2 = or-right (ltb (l .upper) n) _ h1 in
-    let h3 = or-right (ltb (l .verdicts) n) _ h2 in
-    let h4 = or-right (ltb (l .moves) m) _ h3 in
-    let h5 = or-right (ltb (l .vectors) (10 * n + 512)) _ h4 in
+    let a = neither (ltb (l .lower) n) _ h in
+    let b = neither (ltb (l .upper) n) _ (a .1) in
+    let c = neither (ltb (l .verdicts) n) _ (b .1) in
+    let d = neither (ltb (l .moves) m) _ (c .1) in
+    let e = neither (ltb (l .vectors) (10 * n + 512)) _ (d .1) in
+    let f = neither (ltb (l .marks) (k * n)) _ (e .1) in
     record {
-      lower = ltb-false _ _ (or-left (ltb (l .lower) n) _ h);
-      upper = ltb-false _ _ (or-left (ltb (l .upper) n) _ h1);
-      verdicts = ltb-false _ _ (or-left (ltb (l .verdicts) n) _ h2);
-      moves = ltb-false _ _ (or-left (ltb (l .moves) m) _ h3);
-      vectors = ltb-false _ _ (or-left (ltb (l .vectors) (10 * n + 512)) _ h4);
-      marks = ltb-false _ _ (or-left (ltb (l .marks) (k * n)) _ h5);
+      lower = ltb-false _ _ (a .0);
+      upper = ltb-false _ _ (b .0);
+      verdicts = ltb-false _ _ (c .0);
+      moves = ltb-false _ _ (d .0);
+      vectors = ltb-false _ _ (e .0);
+      marks = ltb-false _ _ (f .0);
     }
 
 drop-beyond : (n : ℕ) (l l₀ : List ℕ) → length l ≡ length l₀ → ((k : ℕ) → n ≤ k → at l k ≡ at l₀ k) → drop n l ≡ drop n l₀

@@ -1,18 +1,17 @@
 -- The columns of a report, from the row and the ends. Assumes nothing.
 use mathlib.Core.Path.{_≡_, refl, ap, sym, subst, _∙_}
-use mathlib.Core.Bool.{Bool, true, _&&_}
+use mathlib.Core.Bool.{true, _&&_, and-eq-true-iff}
 use mathlib.Core.List.{List}
-use Prim.Native.Nat.{ℕ, _+_, _*_, _≤_, _<_}
+use Prim.Native.Nat.{ℕ, _+_, _*_, _≤_}
 use native.Mathlib.Omega.{arith}
-use lib.ListN.{length, getD}
+use lib.ListN.{getD}
 use lib.Dec.{leb}
 use borrow.Author.Tests.{leb-true}
 use Rattle.csl.specs.Text.{Text}
 use Rattle.csl.specs.Limits.{mostLevels, mostRateHours}
 use Rattle.csl.specs.Formula.{Formula, untilsPass, Comparison}
 use Rattle.csl.specs.Formula as csl
-use Rattle.csl.specs.Chain.{Chain, topRate, load, depth}
-use Rattle.csl.specs.Verdicts.{Verdict}
+use Rattle.csl.specs.Chain.{Chain, load, depth}
 use Rattle.csl.specs.Report.{lowerOf, upperOf, depthOf}
 use Rattle.csl.specs.Lent.{verdictByte, column, written}
 use Rattle.values.specs.Byte.{verdictAt}
@@ -28,7 +27,7 @@ use Rattle.store.specs.declared.Kind.the-variants as kind
 use Rattle.until.specs.Asked as until
 use Rattle.results.specs.Report.{RowShows, column-as, verdicts-shown, lowers-shown, uppers-shown}
 use Rattle.decide.specs.Asked.{EndsLeft}
-use Rattle.decide.specs.Operands.{IsUntil, until-of, shown-kind, and-true}
+use Rattle.decide.specs.Operands.{IsUntil, until-of, shown-kind}
 use Rattle.conclude.specs.Concluded.{ConcludeAsked, Concluded}
 
 -- a node that is no `P`
@@ -96,9 +95,9 @@ module _ {l marks : List ℕ} {nodes : List Node} {root n q : ℕ} (a : Conclude
     pub load-fits : q * t ≤ mostRateHours
     unfolding untilsPass
     load-fits =
-        let i = and-true (leb (q * t) mostRateHours && untilsPass (λ u v. leb (q * v) mostRateHours) (is .g)) (untilsPass (λ u v. leb (q * v) mostRateHours) (is .h))
+        let i = and-eq-true-iff (leb (q * t) mostRateHours && untilsPass (λ u v. leb (q * v) mostRateHours) (is .g)) (untilsPass (λ u v. leb (q * v) mostRateHours) (is .h)) .0
         (subst (λ z. untilsPass (λ u v. leb (q * v) mostRateHours) z ≡ true) (is .is) (a .loads)) in
-        leb-true (q * t) mostRateHours (and-true (leb (q * t) mostRateHours) (untilsPass (λ u v. leb (q * v) mostRateHours) (is .g)) (i .0) .0)
+        leb-true (q * t) mostRateHours (and-eq-true-iff (leb (q * t) mostRateHours) (untilsPass (λ u v. leb (q * v) mostRateHours) (is .g)) .0 (i .0) .0)
 
     pub until-concluded : {lower₀ lower upper₀ upper verdicts₀ verdicts : List ℕ} {d : ℕ}
         → verdicts ≡ written (column (λ s. verdictByte (verdictAt (getD marks s 0))) n) verdicts₀

@@ -21,8 +21,9 @@ pub mod Report
 pub mod Backing
 pub mod SummedEnds
 pub mod Grammar
-pub mod Rates
 pub mod Refusal
+pub mod Rates
+pub mod Accepted
 pub mod Bench
 pub mod Trial
 pub mod EightHours

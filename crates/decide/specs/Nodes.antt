@@ -1,39 +1,38 @@
 -- What is decided of a node, from what is decided of its operands: node by node. Assumes nothing.
 use mathlib.Core.Path.{_≡_, refl, ap, sym, subst, _∙_}
-use mathlib.Core.Bool.{Bool, true, false, cond, _&&_, _||_, false≢true}
+use mathlib.Core.Bool.{Bool, true, false, cond, _&&_, _||_, false≢true, and-eq-true-iff}
 use mathlib.Core.List.{List, [], _∷_}
-use Prim.Native.Nat.{ℕ, zero, suc, _+_, _*_, _-_, _/_, _%_, _^_, _≤_, _<_, max}
+use Prim.Native.Nat.{ℕ, suc, _+_, _*_, _-_, _/_, _%_, _^_, _≤_, _<_}
 use native.Mathlib.Omega.{arith}
-use lib.ListN.{length, getD, take, drop, length-drop}
+use lib.ListN.{length, getD, drop, length-drop}
 use lib.Seq.{getD-drop}
 use lib.Dec.{leb, ltb, eqb}
 use borrow.Author.Tests.{leb-true, ltb-true, ltb-false}
 use Rattle.csl.specs.Text.{Text, same, among}
-use Rattle.csl.specs.Limits.{billion, mostThreshold, mostHours, mostRateHours, mostNames}
+use Rattle.csl.specs.Limits.{billion, mostThreshold, mostHours, mostRateHours}
 use Rattle.csl.specs.Labels.{placeOf}
 use Rattle.csl.specs.Formula.{Formula, levels, labelsPass, untilsPass, Comparison}
 use Rattle.csl.specs.Formula as csl
-use Rattle.csl.specs.Chain.{Chain, topRate, load}
+use Rattle.csl.specs.Chain.{topRate, load}
 use Rattle.csl.specs.Chain as chain
-use Rattle.csl.specs.Verdicts.{Verdict, Yes, marked, negation, conjunction, judged}
+use Rattle.csl.specs.Verdicts.{marked}
 use Rattle.bounds.specs.Found.{found, lowerFound, upperFound, ends-found}
-use Rattle.rows.specs.Words.{at, topOf}
+use Rattle.rows.specs.Words.{at}
 use Rattle.bounds.specs.Width.{mostDepth}
 use Rattle.rows.specs.Shown.{top-shown}
 use Rattle.marks.specs.Shown as rows
 use Rattle.marks.specs.Row.{RowIs, EndsIn}
 use Rattle.marks.specs.Byte.{joinedByte, labelByte, judgedByte}
-use Rattle.store.specs.Placed.{Placed, placed}
-use Rattle.store.specs.Shown.{shown, shownKind, kindAt, OperandsBefore}
+use Rattle.store.specs.Shown.{shown, kindAt}
 use Rattle.store.specs.declared.Node.{Node}
 use Rattle.store.specs.declared.Kind.the-variants as kind
 use Rattle.values.specs.declared.comparison.Comparison as code
 use Rattle.values.specs.Paper.{comparisonOf}
-use Rattle.until.specs.Asked.{depthOf, UntilAsked, Until}
+use Rattle.until.specs.Asked.{UntilAsked, Until}
 use Rattle.decide.specs.Ends.{Row, lower-decided, upper-decided}
-use Rattle.decide.specs.Asked.{marksFrom, Ready, Marked, Kept, Asked, Decided, EndsLeft}
+use Rattle.decide.specs.Asked.{marksFrom, Ready, Kept, Asked, Decided, EndsLeft}
 use Rattle.decide.specs.Parts.{LabelAsked, UntilNode}
-use Rattle.decide.specs.Operands.{row-held, levels-some, IsBoth, IsUntil, IsLabel, both-of, until-of, label-of, always-of, shown-kind, and-true, kept-all, kept-twice, ready-kept, Pair, first-row, second-row, two-rows, past-row, rows-beyond, rows-before, rows-same, words-kept}
+use Rattle.decide.specs.Operands.{row-held, IsBoth, IsUntil, IsLabel, both-of, until-of, label-of, always-of, shown-kind, kept-all, kept-twice, ready-kept, Pair, first-row, second-row, two-rows, past-row, rows-beyond, rows-before, rows-same, words-kept}
 
 abbrev inBounds : ℕ → ℕ → Bool
 inBounds p t = leb p mostThreshold && leb t mostHours
@@ -112,11 +111,11 @@ module _ {mv l marks : List ℕ} {nodes : List Node} {node depth d slot n q : �
     unfolding levels labelsPass untilsPass
     both-pair =
         let o : (x < node) × (y < node) = rw e at (a .operands node (a .inside)) in
-        let i = and-true (labelsPass (among (a .names)) (both-is .g)) (labelsPass (among (a .names)) (both-is .h))
+        let i = and-eq-true-iff (labelsPass (among (a .names)) (both-is .g)) (labelsPass (among (a .names)) (both-is .h)) .0
         (subst (λ z. labelsPass (among (a .names)) z ≡ true) (both-is .is) (a .labels)) in
-        let j = and-true (untilsPass inBounds (both-is .g)) (untilsPass inBounds (both-is .h))
+        let j = and-eq-true-iff (untilsPass inBounds (both-is .g)) (untilsPass inBounds (both-is .h)) .0
         (subst (λ z. untilsPass inBounds z ≡ true) (both-is .is) (a .bounds)) in
-        let k = and-true (untilsPass (inLoad q) (both-is .g)) (untilsPass (inLoad q) (both-is .h))
+        let k = and-eq-true-iff (untilsPass (inLoad q) (both-is .g)) (untilsPass (inLoad q) (both-is .h)) .0
         (subst (λ z. untilsPass (inLoad q) z ≡ true) (both-is .is) (a .loads)) in
         record {
           step = step;
@@ -161,22 +160,22 @@ module _ {mv l marks : List ℕ} {nodes : List Node} {node depth d slot n q : �
     until-bounds : ((inBounds p t && untilsPass inBounds (until-is .g)) ≡ true) × (untilsPass inBounds (until-is .h) ≡ true)
     unfolding untilsPass
     until-bounds =
-        and-true (inBounds p t && untilsPass inBounds (until-is .g)) (untilsPass inBounds (until-is .h))
+        and-eq-true-iff (inBounds p t && untilsPass inBounds (until-is .g)) (untilsPass inBounds (until-is .h)) .0
         (subst (λ z. untilsPass inBounds z ≡ true) (until-is .is) (a .bounds))
 
     until-loads : ((inLoad q p t && untilsPass (inLoad q) (until-is .g)) ≡ true) × (untilsPass (inLoad q) (until-is .h) ≡ true)
     unfolding untilsPass
     until-loads =
-        and-true (inLoad q p t && untilsPass (inLoad q) (until-is .g)) (untilsPass (inLoad q) (until-is .h))
+        and-eq-true-iff (inLoad q p t && untilsPass (inLoad q) (until-is .g)) (untilsPass (inLoad q) (until-is .h)) .0
         (subst (λ z. untilsPass (inLoad q) z ≡ true) (until-is .is) (a .loads))
 
     pub threshold-fits : p ≤ mostThreshold
     threshold-fits =
         leb-true p mostThreshold
-        (and-true (leb p mostThreshold) (leb t mostHours) (and-true (inBounds p t) (untilsPass inBounds (until-is .g)) (until-bounds .0) .0) .0)
+        (and-eq-true-iff (leb p mostThreshold) (leb t mostHours) .0 (and-eq-true-iff (inBounds p t) (untilsPass inBounds (until-is .g)) .0 (until-bounds .0) .0) .0)
 
     pub load-fits : q * t ≤ mostRateHours
-    load-fits = leb-true (q * t) mostRateHours (and-true (inLoad q p t) (untilsPass (inLoad q) (until-is .g)) (until-loads .0) .0)
+    load-fits = leb-true (q * t) mostRateHours (and-eq-true-iff (inLoad q p t) (untilsPass (inLoad q) (until-is .g)) .0 (until-loads .0) .0)
 
     -- the depth is one that the ends are known for
     shallow : chain.depth (a .c) t ≤ mostDepth
@@ -189,7 +188,7 @@ module _ {mv l marks : List ℕ} {nodes : List Node} {node depth d slot n q : �
     unfolding levels labelsPass
     until-pair =
         let o : (x < node) × (y < node) = rw e at (a .operands node (a .inside)) in
-        let i = and-true (labelsPass (among (a .names)) (until-is .g)) (labelsPass (among (a .names)) (until-is .h))
+        let i = and-eq-true-iff (labelsPass (among (a .names)) (until-is .g)) (labelsPass (among (a .names)) (until-is .h)) .0
         (subst (λ z. labelsPass (among (a .names)) z ≡ true) (until-is .is) (a .labels)) in
         record {
           step = step;
@@ -202,9 +201,9 @@ module _ {mv l marks : List ℕ} {nodes : List Node} {node depth d slot n q : �
           second-inside = omega (arith, o .1, a .inside);
           first-labels = i .0;
           second-labels = i .1;
-          first-bounds = and-true (inBounds p t) (untilsPass inBounds (until-is .g)) (until-bounds .0) .1;
+          first-bounds = and-eq-true-iff (inBounds p t) (untilsPass inBounds (until-is .g)) .0 (until-bounds .0) .1;
           second-bounds = until-bounds .1;
-          first-loads = and-true (inLoad q p t) (untilsPass (inLoad q) (until-is .g)) (until-loads .0) .1;
+          first-loads = and-eq-true-iff (inLoad q p t) (untilsPass (inLoad q) (until-is .g)) .0 (until-loads .0) .1;
           second-loads = until-loads .1;
         }
 

@@ -1,9 +1,9 @@
 -- From a node to its operands and back: what is asked of the operands follows from what is asked of the node, and what is decided of the node
 -- from what is decided of them. Assumes nothing.
 use mathlib.Core.Path.{_≡_, refl, ap, sym, subst, _∙_}
-use mathlib.Core.Bool.{Bool, true, false, _&&_, false≢true}
+use mathlib.Core.Bool.{true, _&&_}
 use mathlib.Core.List.{List}
-use Prim.Native.Nat.{ℕ, zero, suc, _+_, _*_, _≤_, _<_, max}
+use Prim.Native.Nat.{ℕ, suc, _+_, _*_, _≤_, _<_, max}
 use native.Mathlib.Omega.{arith}
 use native.Mathlib.Nat.{mul-le-mul-right}
 use lib.ListN.{length, getD}
@@ -14,19 +14,18 @@ use Rattle.csl.specs.Labels.{placeOf}
 use Rattle.csl.specs.Formula.{Formula, levels, labelsPass, untilsPass, Comparison}
 use Rattle.csl.specs.Formula as csl
 use Rattle.csl.specs.Chain.{Chain}
-use Rattle.csl.specs.Verdicts.{Verdict, negation, conjunction}
+use Rattle.csl.specs.Verdicts.{negation}
 use Rattle.bounds.specs.Found.{found}
 use Rattle.rows.specs.Words.{at}
 use Rattle.marks.specs.Shown as rows
 use Rattle.marks.specs.Row.{RowIs, Held}
-use Rattle.marks.specs.Byte.{negatedByte, joinedByte}
+use Rattle.marks.specs.Byte.{negatedByte}
 use Rattle.store.specs.Placed.{Placed, placed}
 use Rattle.store.specs.Placed as tree
-use Rattle.store.specs.Shown.{shown, shownKind, kindAt, OperandsBefore}
+use Rattle.store.specs.Shown.{shown, shownKind, kindAt}
 use Rattle.store.specs.declared.Kind.{Kind}
 use Rattle.store.specs.declared.Node.{Node}
 use Rattle.store.specs.declared.Kind.the-variants as kind
-use Rattle.values.specs.Paper.{comparisonOf}
 use Rattle.values.specs.Byte.{verdictAt}
 use Rattle.decide.specs.Asked.{marksFrom, Ready, Marked, Kept, Asked, Decided, EndsLeft}
 
@@ -97,10 +96,6 @@ label-of names i (csl.label w) e = record { name = w; is = refl; place = cc }
 label-of names i (csl.negated g) e = clash cc
 label-of names i (csl.both g h) e = clash cc
 label-of names i (csl.until r p t g h) e = clash cc
-
-pub and-true : (x y : Bool) → (x && y) ≡ true → (x ≡ true) × (y ≡ true)
-and-true true y h = (refl, h)
-and-true false y h = absurd (false≢true h)
 
 -- what stays does so twice
 pub kept-twice : {n : ℕ} {k l m : List ℕ} → Kept n k l → Kept n l m → Kept n k m

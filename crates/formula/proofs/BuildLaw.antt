@@ -2,7 +2,7 @@
 use mathlib.Core.Path.{_≡_, refl, sym, _∙_, ap}
 use Prim.Native.Nat.{ℕ, _≤_, _<_}
 use native.Mathlib.Omega.{arith}
-use mathlib.Core.Bool.{Bool, true, false, cond, _&&_}
+use mathlib.Core.Bool.{Bool, true, false, cond, _&&_, and-false}
 use mathlib.Core.List.{List}
 use mathlib.Core.Option.{Option, none, some}
 use lib.ListN.{take}
@@ -20,10 +20,6 @@ use Rattle.store.specs.declared.Store.{Store}
 use Rattle.formula.specs.Listed.{empty, storeOf, stored}
 use Rattle.formula.specs.Listing.{laid}
 use Rattle.formula.specs.Laid.{laid-stored}
-
-and-false : (b : Bool) → (b && false) ≡ false
-and-false true = refl
-and-false false = refl
 
 module _ (names : List Text) (o : Option Formula) (e : Extent) (is : e ≡ extentOf o) where
   pub build-unread : e .readable ≡ false → empty ≡ storeOf names o

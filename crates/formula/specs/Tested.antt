@@ -1,24 +1,21 @@
 -- The tests of a formula's nodes are the tests of the formula: refusals 12, 13 and 14. Assumes nothing.
-use mathlib.Core.Path.{_≡_, refl, sym, _∙_, ap}
-use Prim.Native.Nat.{ℕ, zero, suc, _+_, _-_, _*_, _≤_, _<_}
+use mathlib.Core.Path.{_≡_, refl, _∙_}
+use Prim.Native.Nat.{ℕ, suc, _+_}
 use native.Mathlib.Omega.{arith}
-use mathlib.Core.Bool.{Bool, true, false, cond, _&&_, _||_}
-use mathlib.Core.List.{List, [], _∷_, _++_}
-use lib.ListN.{length, replicate}
-use lib.Dec.{leb, ltb, leb·suc-suc}
+use mathlib.Core.Bool.{Bool, true, false, cond, _&&_, _||_, and-true}
+use mathlib.Core.List.{List, [], _∷_}
+use lib.ListN.{length}
+use lib.Dec.{ltb, leb·suc-suc}
 use borrow.Author.Tests.{lt-ltb, le-ltb}
 use Rattle.csl.specs.Text.{Text, same, among}
-use Rattle.csl.specs.Limits.{mostThreshold, mostHours, mostRateHours}
 use Rattle.csl.specs.Labels.{placeOf}
 use Rattle.csl.specs.Formula as csl
 use Rattle.csl.specs.Formula.{Formula, nodes, labelsPass, untilsPass}
-use Rattle.store.specs.Shown.{kindAt, blank}
-use Rattle.store.specs.Pass.{passed, placePasses, untilPasses, allBelow, placePassed, allPassed, lightOf}
+use Rattle.store.specs.Pass.{placePasses, untilPasses, allBelow, placePassed}
 use Rattle.store.specs.declared.Node.{Node}
 use Rattle.store.specs.declared.Test.{Test}
-use Rattle.store.specs.declared.Test.the-variants.{Labels, Limits, Load}
-use Rattle.formula.specs.Listed.{kindOver, listed, stored}
-use Rattle.formula.specs.Holds.{Holds, One, Two, one-held, both-held, until-held, always-held, label-held}
+use Rattle.formula.specs.Listed.{listed}
+use Rattle.formula.specs.Holds.{Holds, one-held, both-held, until-held, always-held, label-held}
 
 -- each label in it passes one test, and each until another
 unfoldable pub treePass : (Text → Bool) → (ℕ → ℕ → Bool) → Formula → Bool
@@ -43,10 +40,6 @@ untils-tree bound (csl.label w) = refl
 untils-tree bound (csl.negated a) = untils-tree bound a
 untils-tree bound (csl.both a c) = rw (untils-tree bound a, untils-tree bound c)
 untils-tree bound (csl.until r p t a c) = rw (untils-tree bound a, untils-tree bound c)
-
-and-true : (x : Bool) → (x && true) ≡ x
-and-true true = refl
-and-true false = refl
 
 and-two : (x a c : Bool) → ((x && c) && a) && true ≡ x && (a && c)
 and-two true true true = refl

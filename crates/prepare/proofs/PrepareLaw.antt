@@ -8,18 +8,21 @@ use lib.Dec.{eqb}
 use lib.ListN.{length, take}
 use lib.Seq.{getD-take, length-take-le}
 use Rattle.csl.specs.Text.{Text}
+use Rattle.csl.specs.Limits.{mostRate}
 use Rattle.csl.specs.Labels.{namesOf, statesOf, markOf}
-use Rattle.csl.specs.Moves.{movesOf, movesLayout}
+use Rattle.csl.specs.Moves.{movesOf, movesLayout, ratesOut}
 use Rattle.csl.specs.Chain.{chainOf}
+use Rattle.csl.specs.Refusal.{wrongRate}
+use Rattle.csl.specs.Laws.Accepted.{moves-layout, labels-layout, few-names, few-states, few-moves, within, apart, rising}
 use Rattle.numbers.specs.Table.{Table}
 use Rattle.moves.specs.Words as moves
 use Rattle.label_words.specs.Words.{wordOf, mark-bit}
 use Rattle.rows.specs.Words.{at, Lines}
 use Rattle.rows.specs.Shown.{Shows, top-shown}
+use Rattle.stored.specs.ByPlace.{rates-within}
 use Rattle.stored.specs.Stored.{Holds, lines-stored, shows-stored}
 use Rattle.decide.specs.Asked.{marksFrom, Marked}
 use Rattle.prepare.specs.Asked.{MarksAsked, MarksStored, RatesAsked, RatesStored, PrepareAsked, Prepared}
-use Rattle.prepare.specs.Accepted.{moves-layout, labels-layout, few-names, few-states, few-moves, within, apart, rising, limit}
 
 -- a bit is 1 where its mark holds
 bit-one : (b : Bool) → eqb (cond b 1 0) 1 ≡ b
@@ -32,6 +35,11 @@ module _ {m₀ labels : Text} {states lines names : ℕ} {words₀ vectors₀ : 
 
   pub small : states ≤ 512
   small = omega (arith, few-states (p .passed), p .states-are)
+
+  -- "The rates out of one state add to at most 64,000,000."
+  limit : (s : ℕ) → ratesOut (movesOf m₀) s ≤ mostRate
+  unfolding wrongRate
+  limit s = rates-within mostRate s (movesOf m₀) (p .passed .rates)
 
   pub marks-asked : MarksAsked labels names vectors₀ states
   marks-asked =
@@ -58,7 +66,7 @@ module _ {m₀ labels : Text} {states lines names : ℕ} {words₀ vectors₀ : 
     lines-are =
         rw (taken, p .states-are)
         (lines-stored (take lines words) (movesOf m₀) (statesOf labels) (few-states (p .passed)) (within (p .passed)) holds
-        (few-moves (p .passed)) (rising (p .passed)) (limit (p .passed)))
+        (few-moves (p .passed)) (rising (p .passed)) limit)
 
     shows : Shows (chainOf m₀ labels) (take lines words) (length (take lines words)) states
     unfolding chainOf

@@ -1,3 +1,2 @@
--- What is asked of the words of an accepted job, and what they hold; what an accepted job has.
+-- What is asked of the words of an accepted job, and what they hold.
 pub mod Asked
-pub mod Accepted

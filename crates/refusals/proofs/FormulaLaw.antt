@@ -1,7 +1,7 @@
 -- Tests 10 to 14, by what the survey told of the text and by the store of its formula. Assumes nothing.
 use mathlib.Core.Path.{_≡_, refl}
 use Prim.Native.Nat.{ℕ}
-use mathlib.Core.Bool.{Bool, true, false, not, _||_, true≢false, false≢true}
+use mathlib.Core.Bool.{true, false, not, _||_, true≢false, false≢true}
 use mathlib.Core.List.{List, [], _∷_}
 use mathlib.Core.Option.{Option, none, some}
 use lib.ListN.{length}
@@ -10,6 +10,7 @@ use borrow.Author.Tests.{le-leb, ltb-false}
 use Rattle.csl.specs.Text.{Text}
 use Rattle.csl.specs.Formula.{Formula, nodes, levels}
 use Rattle.csl.specs.Refusal.{formulaFrom, isMissing, test, firstOf}
+use Rattle.csl.specs.Laws.Refusal.{neither}
 use Rattle.survey.specs.Size.{extentOf}
 use Rattle.survey.specs.declared.Extent.{Extent}
 use Rattle.store.specs.Pass.{allPassed}
@@ -17,7 +18,6 @@ use Rattle.store.specs.declared.Store.{Store}
 use Rattle.store.specs.declared.Test.the-variants.{Labels, Limits, Load}
 use Rattle.formula.specs.Listed.{storeOf}
 use Rattle.formula.specs.Stored.{labels-tested, limits-tested, load-tested}
-use Rattle.refusals.specs.Sides.{or-left, or-right}
 use Rattle.refusals.specs.Tested.{testsOn, formulaAnswer, formulaTestedOf}
 use Rattle.refusals.specs.declared.FormulaTested.{FormulaTested}
 use Rattle.refusals.specs.declared.FormulaTested.the-variants.{Nodes, Wrong}
@@ -54,8 +54,8 @@ module _ (names : List Text) (q : ℕ) (o : Option Formula) (e : Extent) (is : e
       unfolding formulaTestedOf testsOn firstOf isMissing formulaFrom storeOf
       of-formula f h =
           rw (
-            le-leb (nodes f) 64 (ltb-false _ _ (or-left (ltb 64 (nodes f)) _ h)),
-            le-leb (levels f) 16 (ltb-false _ _ (or-right (ltb 64 (nodes f)) _ h)),
+            le-leb (nodes f) 64 (ltb-false _ _ (neither (ltb 64 (nodes f)) _ h .0)),
+            le-leb (levels f) 16 (ltb-false _ _ (neither (ltb 64 (nodes f)) _ h .1)),
             h,
             labels-tested,
             limits-tested,

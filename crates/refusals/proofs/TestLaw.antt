@@ -12,6 +12,7 @@ use Rattle.csl.specs.Formula.{nodes}
 use Rattle.csl.specs.Grammar.{readFormula}
 use Rattle.csl.specs.Refusal.{Job, jobChain, jobFormula, firstOf, textRefusal}
 use Rattle.csl.specs.Laws.Refusal.{NoneHolds, first-none, first-found, first-after}
+use Rattle.csl.specs.Laws.Accepted.{head-right}
 use Rattle.texts.specs.Span.{spanOf}
 use Rattle.tokens.specs.Behind.{partsBehind}
 use Rattle.sheet.specs.Checked as sheet
@@ -21,7 +22,7 @@ use Rattle.sheet.specs.declared.Checked as sheet-checked
 use Rattle.sheet.specs.declared.Checked.the-variants as checked
 use Rattle.refusals.specs.Tested.{acceptedOf, answer, testedOf, formulaAnswer, formulaTestedOf, tests-on}
 use Rattle.refusals.specs.FirstLine.{line-ends, word-before, names-behind}
-use Rattle.refusals.specs.Kept.{head-right, top-is}
+use Rattle.refusals.specs.Kept.{top-is}
 use Rattle.refusals.specs.declared.Tested.the-variants.{Passed, Refused}
 use Rattle.refusals.specs.declared.FormulaTested.{FormulaTested}
 use Rattle.refusals.specs.declared.FormulaTested.the-variants.{Nodes, Wrong}

@@ -3,21 +3,19 @@ use mathlib.Core.Path.{_≡_, refl, sym, ap, _∙_}
 use Prim.Native.Nat.{ℕ, zero, suc, _-_, _≤_, _<_}
 use native.Mathlib.Omega.{arith}
 use native.Mathlib.Nat.{sub-zero, zero-sub}
-use mathlib.Core.Bool.{Bool, true, false, false≢true}
+use mathlib.Core.Bool.{Bool, true, false, false≢true, and-eq-true-iff}
 use mathlib.Core.List.{[], _∷_, headD, tail}
 use lib.ListN.{length, take, drop}
 use lib.Seq.{length-take-le}
 use lib.Dec.{ltb}
-use borrow.Author.Tests.{ltb-true, ltb-false, leb-true}
+use borrow.Author.Tests.{ltb-true, ltb-false}
 use Rattle.csl.specs.Text.{Text, bytes, same}
-use Rattle.csl.specs.Limits.{mostNames}
 use Rattle.csl.specs.Line.{lineFeed, comma, parts, fieldsOf, firstLine}
 use Rattle.csl.specs.Labels.{namesOf, labelsHead}
 use Rattle.csl.specs.Laws.Grammar.{same-true}
 use Rattle.texts.specs.Span.{spanOf}
 use Rattle.texts.specs.Cut.{span-within, first-cut, first-none}
 use Rattle.tokens.specs.Behind.{partsBehind, parts-first}
-use Rattle.refusals.specs.Sides.{and-left, and-right}
 
 take-none : (n : ℕ) → take {A = ℕ} n [] ≡ []
 take-none zero = refl
@@ -48,12 +46,7 @@ module _ (line : Text) (h : same (headD (fieldsOf line) []) (bytes "state") ≡ 
 module _ (labels : Text) (h : labelsHead labels ≡ true) where
   head-word : same (headD (fieldsOf (firstLine labels)) []) (bytes "state") ≡ true
   unfolding labelsHead
-  head-word = and-left _ _ (and-left _ _ (and-left _ _ h))
-
-  -- "up to 16 label names"
-  pub few-names : length (namesOf labels) ≤ mostNames
-  unfolding labelsHead
-  few-names = leb-true _ _ (and-right (same (headD (fieldsOf (firstLine labels)) []) (bytes "state")) _ (and-left _ _ (and-left _ _ h)))
+  head-word = and-eq-true-iff _ _ .0 (and-eq-true-iff _ _ .0 (and-eq-true-iff _ _ .0 h .0) .0) .0
 
   -- the first line ends
   pub line-ends : spanOf lineFeed labels < length labels

@@ -2,29 +2,30 @@
 use mathlib.Core.Path.{_≡_, refl, sym, ap, _∙_}
 use Prim.Native.Nat.{ℕ, _-_, _≤_, _<_}
 use native.Mathlib.Omega.{arith}
-use mathlib.Core.Bool.{Bool, true, false, cond, _||_, true≢false}
+use mathlib.Core.Bool.{false, cond, _||_, true≢false}
 use mathlib.Core.List.{List, [], _∷_}
 use mathlib.Core.Option.{Option, none, some}
 use lib.ListN.{length, take, drop}
 use lib.Dec.{ltb, eqb}
-use borrow.Author.Tests.{ltb-false, eqb-false, not-false, le-leb}
+use borrow.Author.Tests.{ltb-false, not-false, le-leb}
 use Rattle.csl.specs.Text.{any}
 use Rattle.csl.specs.Limits.{mostStates, mostMoves, mostNodes, mostLevels, mostRate, mostNames}
 use Rattle.csl.specs.Line.{lineFeed, comma}
-use Rattle.csl.specs.Labels.{namesOf, labelsHead}
-use Rattle.csl.specs.Moves.{Move, movesHead, isRising, ratesOut}
+use Rattle.csl.specs.Labels.{namesOf}
+use Rattle.csl.specs.Moves.{Move, isRising, ratesOut}
 use Rattle.csl.specs.Formula.{Formula, nodes, levels}
 use Rattle.csl.specs.Grammar.{readFormula}
 use Rattle.csl.specs.Chain.{chainOf, topRate}
 use Rattle.csl.specs.Lent.{Buffers, needed, isShort}
-use Rattle.csl.specs.Refusal.{Job, jobStates, jobMoves, jobChain, jobFormula, formulaFrom, isMissing, textRefusal, wrongFirstLine, wrongStates, manyMoves, strangeState, ownState, notRising, wrongRate, brokenGrammar, largeFormula, shortBuffer}
+use Rattle.csl.specs.Refusal.{Job, jobStates, jobMoves, jobChain, jobFormula, formulaFrom, isMissing, textRefusal, strangeState, ownState, notRising, wrongRate, brokenGrammar, shortBuffer}
 use Rattle.csl.specs.Laws.Rates.{topFrom, top-by-lines, within-tested, apart-tested}
 use Rattle.csl.specs.Laws.Refusal as csl
+use Rattle.csl.specs.Laws.Refusal.{neither}
+use Rattle.csl.specs.Laws.Accepted.{labels-head, few-names, some-state, few-states, few-moves, rising, few-nodes, few-levels}
 use Rattle.texts.specs.Span.{spanOf}
 use Rattle.tokens.specs.Behind.{partsBehind}
 use Rattle.formula.specs.Listed.{stored, storeOf}
 use Rattle.refusals.specs.Tested.{acceptedOf, answer, testedOf, Limited}
-use Rattle.refusals.specs.Sides.{and-right, or-left, or-right}
 use Rattle.refusals.specs.FirstLine as line
 use Rattle.refusals.specs.declared.Accepted.{Accepted}
 use Rattle.refusals.specs.declared.Tested.{Tested}
@@ -60,11 +61,6 @@ module _ (j : Job) where
   unfolding testedOf
   accepted-is a h = sym (accepted-with (acceptedOf j) (textRefusal j)) ∙ ap (acceptedWith (acceptedOf j)) h
 
-  -- the labels' first line is right
-  pub head-right : wrongFirstLine j ≡ false → labelsHead (j .labels) ≡ true
-  unfolding wrongFirstLine
-  head-right h = and-right (movesHead (j .moves)) _ (not-false _ h)
-
   -- q by the lines of the moves
   pub top-is : strangeState j ≡ false → ownState j ≡ false → notRising j ≡ false
       → cond (isRising (jobMoves j)) (topFrom (ratesOut (jobMoves j)) (jobMoves j)) 0 ≡ topRate (jobChain j)
@@ -77,9 +73,9 @@ slow : (f : ℕ → ℕ) (ms : List Move) → any (λ m. eqb (m .rate) 0 || ltb 
 unfolding any topFrom
 slow f [] h = omega arith
 slow f (m ∷ ms) h =
-    let x : Bool = eqb (m .rate) 0 || ltb mostRate (f (m .from)) in
-    let a : f (m .from) ≤ mostRate = ltb-false _ _ (or-right (eqb (m .rate) 0) _ (or-left x _ h)) in
-    let b : topFrom f ms ≤ mostRate = slow f ms (or-right x _ h) in
+    let x = neither (eqb (m .rate) 0 || ltb mostRate (f (m .from))) _ h in
+    let a : f (m .from) ≤ mostRate = ltb-false _ _ (neither (eqb (m .rate) 0) _ (x .0) .1) in
+    let b : topFrom f ms ≤ mostRate = slow f ms (x .1) in
     omega arith
 
 -- the formula that a text spells
@@ -107,31 +103,13 @@ pub record Held (j : Job) : Type 0 where
   pub store-is : storeOf (namesOf (j .labels)) (readFormula (j .formula)) ≡ stored (namesOf (j .labels)) (jobFormula j)
 
 module _ (j : Job) (p : csl.Passed j) where
-  states-right : (1 ≤ jobStates j) × (jobStates j ≤ mostStates)
-  unfolding wrongStates
-  states-right =
-      let z : jobStates j ≡ 0 → ⊥ = eqb-false _ _ (or-left _ _ (or-left _ _ (p .states))) in
-      (omega arith, ltb-false _ _ (or-right (eqb (jobStates j) 0) _ (or-left _ _ (p .states))))
-
-  moves-right : length (jobMoves j) ≤ mostMoves
-  unfolding manyMoves
-  moves-right = ltb-false _ _ (p .few-moves)
-
-  nodes-right : nodes (jobFormula j) ≤ mostNodes
-  unfolding largeFormula
-  nodes-right = ltb-false _ _ (or-left _ _ (p .size))
-
-  levels-right : levels (jobFormula j) ≤ mostLevels
-  unfolding largeFormula
-  levels-right = ltb-false _ _ (or-right (ltb mostNodes (nodes (jobFormula j))) _ (p .size))
-
   rate-right : topRate (jobChain j) ≤ mostRate
-  unfolding wrongRate notRising
+  unfolding wrongRate
   rate-right =
       omega (arith, top-is j (p .known-states) (p .other-states) (p .rising), slow (ratesOut (jobMoves j)) (jobMoves j) (p .rates), rising-top)
     where
       rising-top : cond (isRising (jobMoves j)) (topFrom (ratesOut (jobMoves j)) (jobMoves j)) 0 ≡ topFrom (ratesOut (jobMoves j)) (jobMoves j)
-      rising-top = rw (not-false (isRising (jobMoves j)) (p .rising))
+      rising-top = rw (rising p)
 
   formula-right : readFormula (j .formula) ≡ some (jobFormula j)
   unfolding brokenGrammar
@@ -139,7 +117,7 @@ module _ (j : Job) (p : csl.Passed j) where
 
   store-right : storeOf (namesOf (j .labels)) (readFormula (j .formula)) ≡ stored (namesOf (j .labels)) (jobFormula j)
   unfolding storeOf
-  store-right = ap (storeOf (namesOf (j .labels))) formula-right ∙ kept (jobFormula j) nodes-right levels-right
+  store-right = ap (storeOf (namesOf (j .labels))) formula-right ∙ kept (jobFormula j) (few-nodes p) (few-levels p)
     where
       kept : (f : Formula) → nodes f ≤ mostNodes → levels f ≤ mostLevels → storeOf (namesOf (j .labels)) (some f) ≡ stored (namesOf (j .labels)) f
       kept f h k = rw (le-leb _ _ h, le-leb _ _ k)
@@ -147,19 +125,18 @@ module _ (j : Job) (p : csl.Passed j) where
 pub held : (j : Job) → textRefusal j ≡ none → Held j
 held j h =
     let p : csl.Passed j = csl.passed j h in
-    let e : labelsHead (j .labels) ≡ true = head-right j (p .first-lines) in
     record {
       passed = p;
-      some-state = states-right j p .0;
-      states-fit = states-right j p .1;
-      moves-fit = moves-right j p;
-      nodes-fit = nodes-right j p;
-      levels-fit = levels-right j p;
-      names-fit = line.few-names (j .labels) e;
+      some-state = some-state p;
+      states-fit = few-states p;
+      moves-fit = few-moves p;
+      nodes-fit = few-nodes p;
+      levels-fit = few-levels p;
+      names-fit = few-names p;
       rate-fits = rate-right j p;
-      word-before = line.word-before (j .labels) e;
-      line-ends = line.line-ends (j .labels) e;
-      names-behind = line.names-behind (j .labels) e;
+      word-before = line.word-before (j .labels) (labels-head p);
+      line-ends = line.line-ends (j .labels) (labels-head p);
+      names-behind = line.names-behind (j .labels) (labels-head p);
       formula-read = formula-right j p;
       store-is = store-right j p;
     }

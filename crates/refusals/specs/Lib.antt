@@ -1,5 +1,4 @@
 -- What the tests answer, and what an accepted job keeps.
 pub mod Tested
-pub mod Sides
 pub mod FirstLine
 pub mod Kept

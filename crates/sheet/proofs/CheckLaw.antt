@@ -2,22 +2,21 @@
 use mathlib.Core.Path.{_≡_, refl, sym, _∙_}
 use Prim.Native.Nat.{ℕ, _≤_}
 use borrow.Author.Tests.{ltb-false}
-use mathlib.Core.Bool.{Bool, true, false, cond, not, _&&_, _||_, true≢false}
+use mathlib.Core.Bool.{Bool, true, false, cond, not, _&&_, _||_}
 use mathlib.Core.List.{List, [], _∷_}
 use mathlib.Core.Option.{Option, none, some}
 use lib.ListN.{length}
 use lib.Dec.{ltb, eqb}
-use Rattle.csl.specs.Text.{any}
 use Rattle.csl.specs.Line.{lineFeed, laterLines}
 use Rattle.csl.specs.Labels.{namesOf, labelsHead, labelsLayout, inTurn, statesOf}
 use Rattle.csl.specs.Moves.{movesHead, movesLayout, movesOf, isRising}
 use Rattle.csl.specs.Refusal.{Job, Test, test, firstOf, badLength, outOfBytes, brokenLayout, wrongFirstLine, wrongStates, manyMoves, strangeState, ownState, notRising, wrongRate}
+use Rattle.csl.specs.Laws.Refusal.{neither}
 use Rattle.texts.specs.Span.{spanOf}
 use Rattle.moves.specs.Facts as m
 use Rattle.labels.specs.Facts as l
 use Rattle.labels.specs.declared.Facts as labels
 use Rattle.sheet.specs.Checked.{answer, sheetOf, sheetTests, checkedOf, judged, judgedTests}
-use Rattle.sheet.specs.declared.Checked.{Checked}
 use Rattle.sheet.specs.declared.Checked.the-variants.{Refused}
 
 -- condition 9 is put to rising moves only
@@ -81,8 +80,4 @@ module _ (j : Job) where
 
 -- a text within its byte limit
 pub within : (n : ℕ) → (eqb n 0 || ltb 61440 n) ≡ false → n ≤ 61440
-within n h = go (eqb n 0) h
-  where
-    go : (x : Bool) → (x || ltb 61440 n) ≡ false → n ≤ 61440
-    go true q = absurd (true≢false q)
-    go false q = ltb-false 61440 n q
+within n h = ltb-false 61440 n (neither (eqb n 0) (ltb 61440 n) h .1)

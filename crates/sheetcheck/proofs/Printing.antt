@@ -14,7 +14,8 @@ use Rattle.csl.specs.Report.{reportText, refusalText, depthOf}
 use Rattle.csl.specs.Lent.{Buffers, lengths, verdictByte, column, written, filled}
 use Rattle.csl.specs.Refusal.{Job, jobStates, jobChain, jobFormula, textRefusal}
 use Rattle.csl.specs.Finished.{Answer, Accepted, TurnedBack, Finished, FinishedBy, answerText}
-use Rattle.csl.specs.Laws.Refusal.{passed, refused-by-texts, accepted-by-all}
+use Rattle.csl.specs.Laws.Refusal.{passed, refused-by-texts, accepted-by-all, refusal-number-few}
+use Rattle.csl.specs.Laws.Accepted.{labels-layout, few-states}
 use Rattle.io.specs.Counts.{Counts}
 use Rattle.io.proofs.Counting.{counts}
 use Rattle.values.specs.Byte.{verdictAt, byte-read}
@@ -26,7 +27,7 @@ use Rattle.report.specs.Listing.{listing, entry, verdictIn}
 use Rattle.report.specs.Rendering.{isComplete, fits, Printed}
 use Rattle.sheetcheck.specs.declared.answer.Written.{Written}
 use Rattle.sheetcheck.specs.Prints.{Prints, Answered, lengthOf, numberIn, numberOr0}
-use Rattle.sheetcheck.proofs.Limits.{layout-right, states-few, none-short, number-within, depth-few, InRange, ends-in-range}
+use Rattle.sheetcheck.proofs.Limits.{none-short, depth-few, InRange, ends-in-range}
 use Rattle.sheetcheck.proofs.Lines.{report-few, refusal-few, report-agrees}
 
 -- the buffers that the program lends
@@ -63,13 +64,13 @@ module _ (j : Job) (before after : Buffers (List ℕ)) (a : Answer) (n : ℕ) (o
   unfolding Prints answerText
   refusal-text k e t =
       fitting-text j n a (after .lower) (after .upper) (after .verdicts) old new r (refusalText k) (rw (t .answer) refl) (rw (t .answer) refl)
-      (omega (arith, refusal-few k (number-within j k e))) (rw e refl) (rw (t .answer, e) refl) p
+      (omega (arith, refusal-few k (refusal-number-few j k e))) (rw e refl) (rw (t .answer, e) refl) p
 
   -- a report
   module _ (e : textRefusal j ≡ none) (here : n ≡ jobStates j) (lent : Roomy before)
       (t : Accepted j (jobChain j) (jobFormula j) (depthOf (jobChain j) (jobFormula j)) before a after) where
     few : n ≤ 512
-    few = omega (arith, states-few j (passed j e))
+    few = omega (arith, few-states (passed j e))
 
     lower-is : after .lower ≡ written (column (t .lower) n) (before .lower)
     unfolding filled
@@ -130,7 +131,7 @@ module _ (j : Job) (before after : Buffers (List ℕ)) (a : Answer) (n : ℕ) (o
       go (some k) e = refusal-text k e (rw (refused-by-texts j (lengths before) k e) at f)
       go none e =
           let q = none-short j (passed j e) (lengths before) (lent .lowers) (lent .uppers) (lent .bytes) (lent .words) (lent .vectors) (lent .marks) in
-          report-text e (s ∙ rw (layout-right j (passed j e)) refl) lent (rw (accepted-by-all j (lengths before) e q) at f)
+          report-text e (s ∙ rw (labels-layout (passed j e)) refl) lent (rw (accepted-by-all j (lengths before) e q) at f)
 
 -- what is answered: the text's length and the number
 pub text-answered : {j : Job} {a : Answer} {old new : List ℕ} {r : Rendered} (w : Written) → TextFor j a old new r → w .length ≡ lengthOf r

@@ -1,7 +1,7 @@
 -- One state's step: a value of 1, of 0, or moved. Assumes nothing.
-use mathlib.Core.Path.{_≡_, refl, sym, _∙_}
+use mathlib.Core.Path.{_≡_, sym, _∙_}
 use mathlib.Core.List.{List}
-use mathlib.Core.Bool.{Bool, true, false, cond, _&&_, true≢false}
+use mathlib.Core.Bool.{Bool, true, false, cond, _&&_, true≢false, and-eq-true-iff}
 use borrow.Author.Tests.{eqb-true, eq-eqb}
 use Prim.Native.Nat.{ℕ, suc, _+_, _*_, _-_, _/_, _≤_, _<_}
 use native.Mathlib.Omega.{arith}
@@ -21,18 +21,6 @@ use Rattle.step.specs.Value.{mixed, next, leftOf}
 use Rattle.step.specs.Bound.{mixed-most}
 use Rattle.step.specs.Bytes.{low-certain, left-certain, low-impossible, left-impossible, low-moves, left-moves}
 use Rattle.step.specs.Asked.{Sheet, StateAsked, StateDone, RowAsked, Summed}
-
--- both of two tests
-and-left : (a b : Bool) → (a && b) ≡ true → a ≡ true
-and-left true b h = refl
-and-left false b h = h
-
-and-right : (a b : Bool) → (a && b) ≡ true → b ≡ true
-and-right true b h = h
-and-right false b h = absurd (true≢false (sym h))
-
-and-both : (a b : Bool) → a ≡ true → b ≡ true → true ≡ (a && b)
-and-both a b h k = rw (h, k) refl
 
 -- what comes together is in the divisor's reach
 reach : (d : Divisor) (x : ℕ) → Sound d → x ≤ d .by * one → InReach d x
@@ -111,8 +99,9 @@ module _ {mv l first second : List ℕ} {d : Divisor} {n s begin end : ℕ} (p :
       → StateDone mv l first second (d .by) n s (record { lower = 0; left = 64000000000 })
   unfolding next
   impossible b i t =
-      let e : at first s ≡ 0 = eqb-true (at first s) 0 (and-left (eqb (at first s) 0) (eqb (at second s) 0) (sym i ∙ t)) in
-      let h : at second s ≡ 0 = eqb-true (at second s) 0 (and-right (eqb (at first s) 0) (eqb (at second s) 0) (sym i ∙ t)) in
+      let z = and-eq-true-iff (eqb (at first s) 0) (eqb (at second s) 0) .0 (sym i ∙ t) in
+      let e : at first s ≡ 0 = eqb-true (at first s) 0 (z .0) in
+      let h : at second s ≡ 0 = eqb-true (at second s) 0 (z .1) in
       record { lower = low-impossible (at first s) (at second s) _ e h; left = left-impossible (at first s) (at second s) _ e h }
 
   module _ {r : Sums} (u : Summed mv l n begin end (record { lower = (d .by - at l (6 * n + s)) * at l s; left = (d .by - at l (6 * n + s)) * at l (n + s) }) r) where
@@ -134,7 +123,7 @@ module _ {mv l first second : List ℕ} {d : Divisor} {n s begin end : ℕ} (p :
     unfolding next
     moves h b i t x y e f =
         let k : at first s ≡ 0 → at second s ≡ 0 → ⊥ =
-        λ a c. true≢false (and-both (eqb (at first s) 0) (eqb (at second s) 0) (eq-eqb (at first s) 0 a) (eq-eqb (at second s) 0 c) ∙ sym i ∙ t) in
+        λ a c. true≢false (sym (and-eq-true-iff (eqb (at first s) 0) (eqb (at second s) 0) .1 (eq-eqb (at first s) 0 a, eq-eqb (at second s) 0 c)) ∙ sym i ∙ t) in
         record {
           lower = e ∙ rw lower-is (low-moves (at first s) (at second s) (mixed mv (length mv) (d .by) (at l) s / d .by) h);
           left = f ∙ rw left-is (left-moves (at first s) (at second s) (mixed mv (length mv) (d .by) (leftOf l n) s / d .by) h k);

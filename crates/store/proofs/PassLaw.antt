@@ -5,7 +5,7 @@ use native.Mathlib.Omega.{arith}
 use native.Mathlib.Numerals.{add-one}
 use native.Mathlib.Nat.{le-div-iff-mul-le, div-lt-iff-lt-mul, le-suc-iff}
 use mathlib.Core.Logic.{⊎-elim}
-use mathlib.Core.Bool.{Bool, true, false, _&&_}
+use mathlib.Core.Bool.{Bool, true, false, and-false}
 use lib.Dec.{leb}
 use borrow.Author.Tests.{le-leb, lt-leb, leb-true, leb-false}
 use Rattle.store.specs.Pass.{lightOf, allBelow}
@@ -19,10 +19,6 @@ light-some q t h = go (leb t (64000000 / q)) refl
     go : (p : Bool) → leb t (64000000 / q) ≡ p → p ≡ lightOf q t
     go true e = sym (le-leb (q * t) 64000000 (omega (arith, le-div-iff-mul-le {k = q} {x = t} {y = 64000000} (omega arith) .0 (leb-true _ _ e))))
     go false e = sym (lt-leb (q * t) 64000000 (omega (arith, div-lt-iff-lt-mul {k = q} {x = 64000000} {y = t} (omega arith) .0 (leb-false _ _ e))))
-
-and-false : (b : Bool) → (b && false) ≡ false
-and-false true = refl
-and-false false = refl
 
 module _ (p : ℕ → Bool) where
   pub below-none : allBelow p 0 ≡ true

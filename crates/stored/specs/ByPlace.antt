@@ -1,16 +1,17 @@
 -- What holds of a list of moves, place by place: sums, states in range, sources that rise. Assumes nothing.
 use mathlib.Core.Path.{_≡_, refl, ap, sym, _∙_}
-use mathlib.Core.Bool.{Bool, true, false, cond, _&&_, _||_, false≢true}
+use mathlib.Core.Bool.{Bool, true, false, cond, _&&_, _||_, false≢true, and-eq-true-iff}
 use mathlib.Core.List.{List, [], _∷_}
 use mathlib.Core.Logic.{_⊎_, inl, inr, ⊎-elim}
 use Prim.Native.Nat.{ℕ, zero, suc, _+_, _≤_, _<_}
 use native.Mathlib.Omega.{arith}
 use lib.ListN.{length, getD}
-use lib.Dec.{ltb, leb, eqb}
+use lib.Dec.{ltb, eqb}
 use borrow.Author.Tests.{ltb-true, eqb-true, ltb-false}
 use Rattle.csl.specs.Text.{any}
 use Rattle.csl.specs.Moves.{Move, isBefore, isRising, rateIn, ratesOut}
 use Rattle.csl.specs.Chain.{sumTo}
+use Rattle.csl.specs.Laws.Refusal.{neither}
 use Rattle.csl.specs.Laws.Rates.{Within}
 
 abbrev pub noMove : Move
@@ -55,21 +56,17 @@ before-le a b h = go (ltb (a .from) (b .from)) (eqb (a .from) (b .from)) refl re
     go false true e f k = omega (arith, eqb-true (a .from) (b .from) f)
     go false false e f k = absurd (false≢true k)
 
-and-true : (x y : Bool) → (x && y) ≡ true → (x ≡ true) × (y ≡ true)
-and-true true y h = (refl, h)
-and-true false y h = absurd (false≢true h)
-
 rising-first : (m : Move) (ms : List Move) → isRising (m ∷ ms) ≡ true → (j : ℕ) → j < length ms → m .from ≤ moveAt ms j .from
 unfolding isRising
 rising-first m [] h j l = absurd (omega arith)
-rising-first m (a ∷ ms) h zero l = before-le m a (and-true (isBefore m a) (isRising (a ∷ ms)) h .0)
+rising-first m (a ∷ ms) h zero l = before-le m a (and-eq-true-iff (isBefore m a) (isRising (a ∷ ms)) .0 h .0)
 rising-first m (a ∷ ms) h (suc j) l =
-    let p = and-true (isBefore m a) (isRising (a ∷ ms)) h in omega (arith, before-le m a (p .0), rising-first a ms (p .1) j (omega arith))
+    let p = and-eq-true-iff (isBefore m a) (isRising (a ∷ ms)) .0 h in omega (arith, before-le m a (p .0), rising-first a ms (p .1) j (omega arith))
 
 rising-rest : (m : Move) (ms : List Move) → isRising (m ∷ ms) ≡ true → isRising ms ≡ true
 unfolding isRising
 rising-rest m [] h = refl
-rising-rest m (a ∷ ms) h = and-true (isBefore m a) (isRising (a ∷ ms)) h .1
+rising-rest m (a ∷ ms) h = and-eq-true-iff (isBefore m a) (isRising (a ∷ ms)) .0 h .1
 
 pub rising-places : (ms : List Move) → isRising ms ≡ true → (i j : ℕ) → i ≤ j → j < length ms → moveAt ms i .from ≤ moveAt ms j .from
 rising-places [] h i j k l = absurd (omega arith)
@@ -79,17 +76,13 @@ rising-places (m ∷ ms) h (suc i) zero k l = absurd (omega arith)
 rising-places (m ∷ ms) h (suc i) (suc j) k l = rising-places ms (rising-rest m ms h) i j (omega arith) (omega arith)
 
 -- a state that a line leaves keeps the limit of rates; one that none leaves has no rate
-or-false : (a b : Bool) → (a || b) ≡ false → (a ≡ false) × (b ≡ false)
-or-false true b h = absurd (false≢true (sym h))
-or-false false b h = (refl, h)
-
 left-within : (b : ℕ) (f : ℕ → ℕ) (s : ℕ) (ms : List Move) → any (λ m. eqb (m .rate) 0 || ltb b (f (m .from))) ms ≡ false
     → f s ≤ b ⊎ ratesOut ms s ≡ 0
 unfolding any ratesOut
 left-within b f s [] h = inr refl
 left-within b f s (m ∷ ms) h =
-    let p = or-false (eqb (m .rate) 0 || ltb b (f (m .from))) _ h in
-    go (eqb (m .from) s) refl (ltb-false _ _ (or-false (eqb (m .rate) 0) _ (p .0) .1)) (left-within b f s ms (p .1))
+    let p = neither (eqb (m .rate) 0 || ltb b (f (m .from))) _ h in
+    go (eqb (m .from) s) refl (ltb-false _ _ (neither (eqb (m .rate) 0) _ (p .0) .1)) (left-within b f s ms (p .1))
   where
     go : (x : Bool) → eqb (m .from) s ≡ x → f (m .from) ≤ b → f s ≤ b ⊎ ratesOut ms s ≡ 0
         → f s ≤ b ⊎ cond (eqb (m .from) s) (m .rate) 0 + ratesOut ms s ≡ 0

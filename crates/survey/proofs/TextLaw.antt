@@ -2,7 +2,7 @@
 use mathlib.Core.Path.{_≡_, refl, sym, _∙_}
 use Prim.Native.Nat.{ℕ, suc, _+_, _-_, _≤_, _<_}
 use native.Mathlib.Omega.{arith}
-use mathlib.Core.Bool.{Bool, true, false, _&&_}
+use mathlib.Core.Bool.{Bool, true, false, _&&_, and-false}
 use mathlib.Core.List.{[], _∷_, headD}
 use mathlib.Core.Option.{none, some}
 use lib.ListN.{length, take, drop, length-drop, drop-of-length-le}
@@ -23,10 +23,6 @@ use Rattle.survey.specs.declared.Size.the-variants.{Read, Wrong}
 -- one line, and its line feed
 abbrev oneLine : Text → Bool
 oneLine t = isEnded t && eqb (length (linesOf t)) 1
-
-and-false : (p : Bool) → (p && false) ≡ false
-and-false true = refl
-and-false false = refl
 
 -- of what comes behind a first line
 more-lines : (t : Text) → 1 ≤ length t → (isEnded t && eqb (suc (length (linesOf t))) 1) ≡ false

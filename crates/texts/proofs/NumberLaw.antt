@@ -1,14 +1,14 @@
 -- The number at the start of a text, read byte by byte. Assumes nothing.
-use mathlib.Core.Path.{_≡_, refl, sym, ap, _∙_}
-use Prim.Native.Nat.{ℕ, zero, suc, _+_, _*_, _-_, _^_, _≤_, _<_}
+use mathlib.Core.Path.{_≡_, refl, sym, _∙_}
+use Prim.Native.Nat.{ℕ, suc, _+_, _*_, _-_, _^_, _≤_, _<_}
 use native.Mathlib.Omega.{arith}
 use native.Mathlib.Nat.{pow-suc, pow-le-pow-right}
 use native.Mathlib.Numerals.{add-one}
-use mathlib.Core.Bool.{Bool, true, false, cond, not, _&&_, and-eq-true-iff, and-true}
-use mathlib.Core.List.{List, [], _∷_}
+use mathlib.Core.Bool.{Bool, true, false, cond, not, _&&_, and-eq-true-iff, and-true, and-false}
+use mathlib.Core.List.{[], _∷_}
 use lib.ListN.{length, getD, drop}
 use lib.Dec.{eqb, leb, eqb·suc-zero}
-use borrow.Author.Tests.{le-leb, lt-leb, eq-eqb, ne-eqb, leb-true, leb-false, eqb-true, eqb-false, not-false}
+use borrow.Author.Tests.{le-leb, lt-leb, ne-eqb, leb-true, leb-false, eqb-true, eqb-false, not-false}
 use Rattle.csl.specs.Text.{Text, every}
 use Rattle.csl.specs.Number.{isDigit, isNumber, zeroLed, valueFrom, valueOf}
 use Rattle.texts.specs.Digits.{digitRun, numberAt, settled, NumberFits}
@@ -111,11 +111,7 @@ led-is : (most : ℕ) (d : Text) → 1 ≤ most → every isDigit d ≡ true
     → cond (eqb (length d) 0) (Value 0 1) Bad ≡ cond (isNumber most (48 ∷ d)) (Value (valueOf (48 ∷ d)) (length (48 ∷ d))) Bad
 unfolding isNumber every zeroLed valueFrom
 led-is most [] p h = rw (le-leb 1 most p)
-led-is most (b ∷ d) p h = rw (eqb·suc-zero (length d), last (every isDigit (b ∷ d) && leb 1 (suc (suc (length d))) && leb (suc (suc (length d))) most))
-  where
-    last : (x : Bool) → (x && false) ≡ false
-    last true = refl
-    last false = refl
+led-is most (b ∷ d) p h = rw (eqb·suc-zero (length d), and-false (every isDigit (b ∷ d) && leb 1 (suc (suc (length d))) && leb (suc (suc (length d))) most))
 
 -- another digit in front
 unled-is : (most b : ℕ) (d : Text) → isDigit b ≡ true → every isDigit d ≡ true → (b ≡ 48 → ⊥)

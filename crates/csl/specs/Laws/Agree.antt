@@ -1,6 +1,6 @@
 -- Every truth table that obeys CSL's rules agrees with every backing, given that for one `P`. Assumes nothing.
 use mathlib.Core.Path.{_≡_, refl}
-use mathlib.Core.Bool.{Bool, true, false, not, _&&_}
+use mathlib.Core.Bool.{Bool, true, false, not, _&&_, and-false}
 use Prim.Native.Nat.{ℕ, _<_}
 use Rattle.csl.specs.Formula.{Comparison, Formula, always, label, negated, both, until}
 use Rattle.csl.specs.Chain.{Chain}
@@ -25,15 +25,11 @@ agrees-not No b h = rw h
 agrees-not Yes b h = rw h
 agrees-not Undecided b h = tt
 
-false-right : (b : Bool) → (b && false) ≡ false
-false-right true = refl
-false-right false = refl
-
 pub agrees-and : (v w : Verdict) (a b : Bool) → Agrees v a → Agrees w b → Agrees (conjunction v w) (a && b)
 unfolding Agrees
 agrees-and No w a b h k = rw h
 agrees-and Yes w a b h k = rw h k
-agrees-and Undecided No a b h k = rw k (false-right a)
+agrees-and Undecided No a b h k = rw k (and-false a)
 agrees-and Undecided Yes a b h k = tt
 agrees-and Undecided Undecided a b h k = tt
 

@@ -1,7 +1,7 @@
 -- The reader of formulas against the grammar as document 01 lists it: it finds a formula exactly where the tokens before it spell one, so
 -- each text has at most one reading. Assumes nothing.
 use mathlib.Core.Path.{_≡_, refl, ap, sym, subst, _∙_}
-use mathlib.Core.Bool.{Bool, true, false, cond, _&&_, false≢true}
+use mathlib.Core.Bool.{Bool, true, false, cond, false≢true, and-eq-true-iff}
 use mathlib.Core.List.{List, [], _∷_, _++_}
 use mathlib.Core.Option.{Option, none, some, Option·none-ne-some, Option·some-injective}
 use Prim.Native.Nat.{ℕ, zero, suc, _≤_}
@@ -57,17 +57,13 @@ number-found (w ∷ ts) next f rest h =
 same-cons : (a b : ℕ) (s t : Text) → a ≡ b → s ≡ t → _≡_ {A = Text} (a ∷ s) (b ∷ t)
 same-cons a b s t h k = rw (h, k) refl
 
-both-true : (x y : Bool) → (x && y) ≡ true → (x ≡ true) × (y ≡ true)
-both-true true y h = (refl, h)
-both-true false y h = absurd (false≢true h)
-
 pub same-true : (s t : Text) → same s t ≡ true → s ≡ t
 unfolding same
 same-true [] [] h = refl
 same-true [] (b ∷ t) h = absurd (false≢true h)
 same-true (a ∷ s) [] h = absurd (false≢true h)
 same-true (a ∷ s) (b ∷ t) h =
-    let p : (eqb a b ≡ true) × (same s t ≡ true) = both-true (eqb a b) (same s t) h in
+    let p : (eqb a b ≡ true) × (same s t ≡ true) = and-eq-true-iff (eqb a b) (same s t) .0 h in
     same-cons a b s t (eqb-true a b (p .0)) (same-true s t (p .1))
 
 pub record SignThen (ts : List Text) (next : Comparison → List Text → Found) (f : Formula) (rest : List Text) : Type 0 where

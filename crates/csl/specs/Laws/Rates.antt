@@ -1,7 +1,7 @@
 -- Rates by pairs of states and rates by lines: in a sheet whose moves name its states and go to other states, the exit rate of a state is
 -- the sum of the rates on its lines. Assumes nothing.
 use mathlib.Core.Path.{_≡_, refl, ap, sym, _∙_}
-use mathlib.Core.Bool.{Bool, true, false, cond, _&&_, _||_, true≢false}
+use mathlib.Core.Bool.{Bool, true, false, cond, _&&_, _||_}
 use mathlib.Core.List.{List, [], _∷_}
 use Prim.Native.Nat.{ℕ, zero, suc, _+_, max, _≤_, _<_}
 use mathlib.Core.Logic.{_⊎_, inl, inr, ⊎-elim}
@@ -12,6 +12,7 @@ use Rattle.csl.specs.Text.{Text, any}
 use Rattle.csl.specs.Moves.{Move, movesOf, rateIn, ratesOut}
 use Rattle.csl.specs.Chain.{Chain, chainOf, sumTo, greatest, away, exitRate, topRate}
 use Rattle.csl.specs.Laws.Sum.{sum-cong, sum-add, sum-none, greatest-le, greatest-most}
+use Rattle.csl.specs.Laws.Refusal.{neither}
 
 -- each line names states below n; none goes to its own state
 unfoldable pub Within : ℕ → List Move → Type 0
@@ -23,23 +24,19 @@ Apart [] = Unit {0}
 Apart (m ∷ ms) = (m .from ≡ m .to → ⊥) × Apart ms
 
 -- as the tests have them
-or-false : (a b : Bool) → (a || b) ≡ false → (a ≡ false) × (b ≡ false)
-or-false true b h = absurd (true≢false h)
-or-false false b h = (refl, h)
-
 pub within-tested : (n : ℕ) (ms : List Move) → any (λ m. leb n (m .from) || leb n (m .to)) ms ≡ false → Within n ms
 unfolding any Within
 within-tested n [] h = tt
 within-tested n (m ∷ ms) h =
-    let a = or-false (leb n (m .from) || leb n (m .to)) _ h in
-    let b = or-false (leb n (m .from)) _ (a .0) in
+    let a = neither (leb n (m .from) || leb n (m .to)) _ h in
+    let b = neither (leb n (m .from)) _ (a .0) in
     (leb-false _ _ (b .0), leb-false _ _ (b .1), within-tested n ms (a .1))
 
 pub apart-tested : (ms : List Move) → any (λ m. eqb (m .from) (m .to)) ms ≡ false → Apart ms
 unfolding any Apart
 apart-tested [] h = tt
 apart-tested (m ∷ ms) h =
-    let a = or-false (eqb (m .from) (m .to)) _ h in (eqb-false _ _ (a .0), apart-tested ms (a .1))
+    let a = neither (eqb (m .from) (m .to)) _ h in (eqb-false _ _ (a .0), apart-tested ms (a .1))
 
 -- the share of one line in the sum over all targets
 line-share : (b : Bool) (r to n : ℕ) → to < n → sumTo (λ t. cond (b && eqb to t) r 0) n ≡ cond b r 0

@@ -1,13 +1,21 @@
 -- The order of the tests: what a refusal number says of the tests before it, and what an accepted job has passed. Assumes nothing.
 use mathlib.Core.Path.{_≡_, refl, ap, _∙_}
-use mathlib.Core.Bool.{Bool, true, false, cond}
+use mathlib.Core.Bool.{Bool, true, false, cond, _||_, true≢false, and-eq-true-iff}
 use mathlib.Core.List.{List, [], _∷_, _++_}
-use mathlib.Core.Option.{Option, none, some, Option·some-ne-none, Option·none-ne-some}
-use Prim.Native.Nat.{ℕ}
+use mathlib.Core.Option.{Option, none, some, Option·some-ne-none, Option·none-ne-some, Option·some-injective}
+use Prim.Native.Nat.{ℕ, _<_}
+use lib.Dec.{ltb}
+use borrow.Author.Tests.{ltb-true}
+use Rattle.csl.specs.Text.{every}
 use Rattle.csl.specs.Chain.{topRate}
 use Rattle.csl.specs.Report.{depthOf}
 use Rattle.csl.specs.Lent.{Buffers}
 use Rattle.csl.specs.Refusal.{Job, jobChain, jobFormula, outOfBytes, brokenLayout, wrongFirstLine, wrongStates, manyMoves, strangeState, ownState, notRising, wrongRate, brokenGrammar, largeFormula, strangeLabel, wrongBound, highLoad, shortBuffer, Test, test, textTests, firstOf, textRefusal, refusal, refused, accepted, outcomeBy, outcome}
+
+-- neither of two tests holds
+pub neither : (a b : Bool) → (a || b) ≡ false → (a ≡ false) × (b ≡ false)
+neither true b h = absurd (true≢false h)
+neither false b h = (refl, h)
 
 -- none of the tests holds
 unfoldable pub NoneHolds : List Test → Type 0
@@ -45,6 +53,27 @@ pub first-after : (xs ys : List Test) → NoneHolds xs → firstOf (xs ++ ys) �
 unfolding firstOf NoneHolds
 first-after [] ys h = refl
 first-after (x ∷ xs) ys h = rw (h .0) (first-after xs ys (h .1))
+
+-- what each number passes, the number of the first that holds passes too
+pub first-number : (p : ℕ → Bool) (xs : List Test) (k : ℕ) → every (λ x. p (x .number)) xs ≡ true → firstOf xs ≡ some k → p k ≡ true
+unfolding every firstOf
+first-number p [] k h e = absurd (Option·none-ne-some k e)
+first-number p (x ∷ xs) k h e =
+    let i = and-eq-true-iff (p (x .number)) (every (λ x. p (x .number)) xs) .0 h in
+    go (x .holds) e (i .0) (first-number p xs k (i .1))
+  where
+    go : (b : Bool) → cond b (some (x .number)) (firstOf xs) ≡ some k → p (x .number) ≡ true → (firstOf xs ≡ some k → p k ≡ true) → p k ≡ true
+    go true q l f = rw (← Option·some-injective (x .number) k q) l
+    go false q l f = f q
+
+-- so refusal numbers start at 1 and have at most two digits
+pub refusal-number-some : (j : Job) (lent : Buffers ℕ) (k : ℕ) → refusal j lent ≡ some k → 0 < k
+unfolding refusal textTests every
+refusal-number-some j lent k h = ltb-true 0 k (first-number (ltb 0) (textTests j ++ (test 15 (shortBuffer j lent) ∷ [])) k refl h)
+
+pub refusal-number-few : (j : Job) (k : ℕ) → textRefusal j ≡ some k → k < 100
+unfolding textRefusal textTests every
+refusal-number-few j k h = ltb-true k 100 (first-number (λ n. ltb n 100) (textTests j) k refl h)
 
 -- what a job whose texts are not turned back has passed
 pub record Passed (j : Job) : Type 0 where
