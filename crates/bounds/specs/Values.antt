@@ -8,6 +8,8 @@ use Rattle.csl.specs.Limits.{billion}
 use Rattle.csl.specs.Chain.{Chain, topRate}
 use Rattle.csl.specs.Phase.{Phase, bit, moved}
 use Rattle.csl.specs.Verdicts.{Verdict, No, Yes, Undecided, asNo, asYes}
+-- the verdict of a byte
+pub use Rattle.values.specs.Byte.{verdictAt as verdictOf}
 use Rattle.bounds.specs.Ends.{one, lowerEnd}
 
 -- which rule a later step follows: value 1; value 0; moved and divided by q
@@ -40,7 +42,3 @@ lowerOf a b d v w low = pointed v w (cond (eqb a 0) (billion * bit (asNo w)) (lo
 -- are read as yes.
 abbrev pub upperOf : (a b d : ℕ) → Verdict → Verdict → (ℕ → ℕ) → ℕ
 upperOf a b d v w left = pointed v w (cond (eqb a 0) (billion * bit (asYes w)) (billion - lowerEnd a b (a / b) d left))
-
--- the verdict of a byte: 0 no, 1 yes, else undecided
-abbrev pub verdictOf : ℕ → Verdict
-verdictOf x = cond (eqb x 0) No (cond (eqb x 1) Yes Undecided)

@@ -32,13 +32,6 @@ pub enum FormulaTested {
     Wrong(u64),
 }
 
-// A number in 64 bits.
-fn wide(k: u8) -> u64
-    ensures { λ r. ⌜ r ≡ k ⌝ }
-{
-    k as u64
-}
-
 // Tests 10 to 14, where there are `count` label names, each behind a comma, and the uniformisation rate is q.
 fn test_formula(formula: &[u8], names: &[u8], count: usize, q: u64) -> FormulaTested
     requires { ⌜ count ≡ length (partsBehind comma (now names)) ⌝ }
@@ -69,7 +62,7 @@ pub fn test(moves: &[u8], labels: &[u8], formula: &[u8]) -> Tested
     ensures { λ r. ⌜ r ≡ testedOf (record { moves = now (moves .entry); labels = now (labels .entry); formula = now (formula .entry) }) ⌝ }
 {
     match sheet::check(moves, labels, formula) {
-        Checked::Refused(k) => Tested::Refused(wide(k)),
+        Checked::Refused(k) => Tested::Refused(texts::wide(k)),
         Checked::Passed(s) => {
             let first = s.first;
             match test_formula(formula, &labels[5..first], s.names, s.top) {

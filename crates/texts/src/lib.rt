@@ -16,7 +16,7 @@ pub enum Num {
 }
 
 // A byte in 64 bits.
-fn wide(x: u8) -> u64
+pub fn wide(x: u8) -> u64
     ensures { λ r. ⌜ r ≡ x ⌝ }
 {
     x as u64
