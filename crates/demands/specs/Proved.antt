@@ -1,42 +1,29 @@
 -- What the demands say of the answer, from what a finished job is. Assumes nothing.
 use mathlib.Core.Path.{_≡_, refl, subst}
-use mathlib.Core.Bool.{Bool, true, false, cond}
 use mathlib.Core.List.{List, [], _∷_, _++_}
 use mathlib.Core.Logic.{_⊎_, inl, inr}
-use mathlib.Core.Option.{Option, none, some, Option·some-injective, Option·none-ne-some}
+use mathlib.Core.Option.{Option, none, some}
 use Prim.Native.Nat.{ℕ, _≤_, _<_}
 use native.Mathlib.Omega.{arith}
 use lib.ListN.{length}
+use lib.Dec.{leb}
+use borrow.Author.Tests.{leb-true}
+use Rattle.csl.specs.Text.{every}
 use Rattle.csl.specs.Formula.{Formula, until, Comparison, nodes}
 use Rattle.csl.specs.Chain.{Chain}
 use Rattle.csl.specs.Verdicts.{Verdict, Sides}
 use Rattle.csl.specs.Report.{Reported, depthOf}
 use Rattle.csl.specs.Lent.{Buffers, lengths, filled}
-use Rattle.csl.specs.Refusal.{Job, jobStates, jobMoves, jobChain, jobFormula, refusal, Test, test, textTests, firstOf, shortBuffer, outcome, outcomeBy}
+use Rattle.csl.specs.Refusal.{Job, jobStates, jobMoves, jobChain, jobFormula, refusal, test, textTests, shortBuffer, outcome, outcomeBy}
 use Rattle.csl.specs.Finished.{Answer, refusedWith, acceptedWith, Finished, FinishedBy}
+use Rattle.csl.specs.Laws.Refusal.{first-number, refusal-number-some}
 use Rattle.csl.specs.Theorems as theorems
 
 -- each number of the tests lies from 1 to 15
-unfoldable Numbered : List Test → Type 0
-Numbered [] = Unit {0}
-Numbered (x ∷ xs) = (1 ≤ x .number) × (x .number ≤ 15) × Numbered xs
-
-number-within : (xs : List Test) → Numbered xs → (k : ℕ) → firstOf xs ≡ some k → (1 ≤ k) × (k ≤ 15)
-unfolding Numbered firstOf
-number-within [] n k h = absurd (Option·none-ne-some k h)
-number-within (x ∷ xs) n k h = go (x .holds) h (number-within xs (n .2) k)
-  where
-    go : (b : Bool) → cond b (some (x .number)) (firstOf xs) ≡ some k → (firstOf xs ≡ some k → (1 ≤ k) × (k ≤ 15)) → (1 ≤ k) × (k ≤ 15)
-    go true e f = let z : x .number ≡ k = Option·some-injective (x .number) k e in (omega (arith, n .0), omega (arith, n .1))
-    go false e f = f e
-
-all-numbered : (j : Job) (lent : Buffers ℕ) → Numbered (textTests j ++ (test 15 (shortBuffer j lent) ∷ []))
-unfolding textTests Numbered
-all-numbered j lent = omega arith
-
 numbers-within : (j : Job) (lent : Buffers ℕ) (k : ℕ) → refusal j lent ≡ some k → (1 ≤ k) × (k ≤ 15)
-unfolding refusal
-numbers-within j lent k h = number-within (textTests j ++ (test 15 (shortBuffer j lent) ∷ [])) (all-numbered j lent) k h
+unfolding refusal textTests every
+numbers-within j lent k h =
+    (refusal-number-some j lent k h, leb-true k 15 (first-number (λ n. leb n 15) (textTests j ++ (test 15 (shortBuffer j lent) ∷ [])) k refl h))
 
 -- a report with its backing, in the buffers
 abbrev pub TheReport : Job → (before after : Buffers (List ℕ)) → (lower upper : ℕ → ℕ) → (ℕ → Verdict) → Type 0
