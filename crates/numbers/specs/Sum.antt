@@ -8,6 +8,7 @@ use native.Mathlib.Decide.{le-ind}
 use mathlib.Core.Logic.{⊎-elim}
 use Rattle.csl.specs.Chain.{sumTo}
 use Rattle.numbers.specs.Hint.{le-times}
+pub use Rattle.csl.specs.Laws.Sum.{sum-le, sum-add, sum-weighted, sum-cong}
 
 -- by the code's names
 pub sum-zero : (f : ℕ → ℕ) → sumTo f 0 ≡ 0
@@ -24,32 +25,12 @@ sum-mono f i zero h = let e : i ≡ 0 = omega arith in rw e (le-refl _)
 sum-mono f i (suc n) h =
     ⊎-elim (λ l. omega (arith, sum-mono f i n l)) (λ e. rw e (le-refl _)) (le-suc-iff .0 h)
 
-pub sum-le : (f g : ℕ → ℕ) (n : ℕ) → ((k : ℕ) → k < n → f k ≤ g k) → sumTo f n ≤ sumTo g n
-unfolding sumTo
-sum-le f g zero h = omega arith
-sum-le f g (suc n) h =
-    let r : (k : ℕ) → k < n → f k ≤ g k = λ k l. h k (omega arith) in
-    omega (arith, sum-le f g n r, h n (omega arith))
-
 pub sum-scale : (f : ℕ → ℕ) (m n : ℕ) → sumTo (λ k. f k * m) n ≡ sumTo f n * m
 unfolding sumTo
 sum-scale f m zero = omega arith
 sum-scale f m (suc n) = omega (arith, sum-scale f m n)
 
-pub sum-add : (f g : ℕ → ℕ) (n : ℕ) → sumTo (λ k. f k + g k) n ≡ sumTo f n + sumTo g n
-unfolding sumTo
-sum-add f g zero = omega arith
-sum-add f g (suc n) = omega (arith, sum-add f g n)
-
--- the weights f, each value g at most m: the weighted sum is at most m times the sum of the weights
-pub sum-weighted : (f g : ℕ → ℕ) (m n : ℕ) → ((k : ℕ) → k < n → g k ≤ m) → sumTo (λ k. f k * g k) n ≤ sumTo f n * m
-unfolding sumTo
-sum-weighted f g m zero h = omega arith
-sum-weighted f g m (suc n) h =
-    let r : (k : ℕ) → k < n → g k ≤ m = λ k l. h k (omega arith) in
-    omega (arith, sum-weighted f g m n r, le-times (f n) (h n (omega arith)))
-
--- the same between two places
+-- weights times values of at most m, between two places
 pub sum-weighted-from : (f g : ℕ → ℕ) (m i n : ℕ) → i ≤ n → ((k : ℕ) → k < n → g k ≤ m)
     → sumTo (λ k. f k * g k) n + sumTo f i * m ≤ sumTo (λ k. f k * g k) i + sumTo f n * m
 unfolding sumTo
@@ -59,14 +40,6 @@ sum-weighted-from f g m i (suc n) l h =
     ⊎-elim (λ b. omega (arith, sum-weighted-from f g m i n b r, le-times (f n) (h n (omega arith)))) (λ e. rw e (omega arith))
     (le-suc-iff .0 l)
 
--- functions that agree below n have one sum there
-pub sum-cong : (f g : ℕ → ℕ) (n : ℕ) → ((k : ℕ) → k < n → f k ≡ g k) → sumTo f n ≡ sumTo g n
-unfolding sumTo
-sum-cong f g zero h = refl
-sum-cong f g (suc n) h =
-    let r : (k : ℕ) → k < n → f k ≡ g k = λ k b. h k (omega arith) in
-    omega (arith, sum-cong f g n r, h n (omega arith))
-
 -- each term at most c
 pub sum-most : (f : ℕ → ℕ) (c n : ℕ) → ((k : ℕ) → k < n → f k ≤ c) → sumTo f n ≤ n * c
 unfolding sumTo
@@ -74,3 +47,11 @@ sum-most f c zero h = omega arith
 sum-most f c (suc n) h =
     let r : (k : ℕ) → k < n → f k ≤ c = λ k l. h k (omega arith) in
     omega (arith, sum-most f c n r, h n (omega arith))
+
+-- terms that are 0 from i on add nothing
+pub sum-rest-none : (f : ℕ → ℕ) (i n : ℕ) → i ≤ n → ((k : ℕ) → i ≤ k → k < n → f k ≡ 0) → sumTo f i ≡ sumTo f n
+unfolding sumTo
+sum-rest-none f i zero l h = let e : i ≡ 0 = omega arith in rw e refl
+sum-rest-none f i (suc n) l h =
+    let r : (k : ℕ) → i ≤ k → k < n → f k ≡ 0 = λ k a b. h k a (omega arith) in
+    ⊎-elim (λ b. omega (arith, sum-rest-none f i n b r, h n b (omega arith))) (λ e. rw e refl) (le-suc-iff .0 l)

@@ -1,3 +1,4 @@
+pub mod LastLaw
 pub mod PointedLaw
 pub mod EndsLaw
 pub mod StillLaw

@@ -11,7 +11,7 @@ use borrow.Author.Tests.{eqb-true}
 use Rattle.csl.specs.Phase.{Phase, bit}
 use Rattle.csl.specs.Verdicts.{No, Yes, Undecided, asNo, asYes, least}
 use Rattle.numbers.specs.Hint.{mul-bound}
-use Rattle.numbers.specs.Sum.{sum-cong}
+use Rattle.numbers.specs.Sum.{sum-cong, sum-rest-none}
 use Rattle.bounds.specs.Weight.{peak, low, Middle, low-most}
 use Rattle.bounds.specs.Ends.{one, part, total, gathered, lowerEnd, gathered-most, total-most, total-peak}
 use Rattle.bounds.specs.Values.{verdictOf}
@@ -21,7 +21,7 @@ use Rattle.rows.specs.Words.{at}
 use Rattle.step.specs.Value.{verdicts, lowPhase, leftPhase, valueOf}
 use Rattle.step.specs.Bound.{bit-most, value-most}
 use Rattle.sums.specs.Asked.{BeginAsked, Begun, RunAsked, sumOf, Ran}
-use Rattle.until.specs.Asked.{WeighAsked, Weighed, EndsAsked, Ended, SummedAsked, Summed}
+use Rattle.until.specs.Asked.{WeighAsked, Weighed, LastAsked, Last, EndsAsked, Ended, SummedAsked, Summed}
 
 -- the starts of the two phases, by a verdict byte
 low-start : (g : ℕ) → cond (eqb g 1) one 0 ≡ one * bit (asNo (verdictOf g))
@@ -65,7 +65,10 @@ module _ {mv l first second : List ℕ} {n q a depth : ℕ} (p : SummedAsked mv 
     may-begin =
         record { states = p .weigh .states; room = omega (arith, u .same, p .sheet .room); in-second = p .in-second }
 
-    module _ {b : List ℕ} (i : Begun second n w b) {d : Divisor} (e : Prepared d q) where
+    pub may-look : LastAsked w n depth
+    may-look = record { states = p .weigh .states; limit = limit; room = omega (arith, u .same, p .weigh .room) }
+
+    module _ {last : ℕ} (z : Last n depth w last) {b : List ℕ} (i : Begun second n w b) {d : Divisor} (e : Prepared d q) where
       -- what stood before and still stands
       kept : (k : ℕ) → 6 * n ≤ k → k < 8 * n → at b k ≡ at l k
       kept k x y = i .after k x ∙ u .before k y
@@ -73,7 +76,7 @@ module _ {mv l first second : List ℕ} {n q a depth : ℕ} (p : SummedAsked mv 
       weight-is : (k : ℕ) → k ≤ depth → at b (8 * n + k) ≡ low a 1000000 (a / 1000000) k
       weight-is k h = i .after (8 * n + k) (omega arith) ∙ u .weights k h
 
-      pub may-run : RunAsked mv b first second d n depth
+      pub may-run : RunAsked mv b first second d n last
       may-run =
           record {
             sheet = rw (e .is) (record {
@@ -92,22 +95,28 @@ module _ {mv l first second : List ℕ} {n q a depth : ℕ} (p : SummedAsked mv 
             left = λ s h. i .left s h ∙ left-start (at second s);
             lower-sum = i .lower-sum;
             left-sum = i .left-sum;
-            room = omega (arith, i .same, u .same, p .weigh .room);
-            limit = limit;
-            weights = λ k h. rw (weight-is k h) (low-most middle k);
+            room = omega (arith, i .same, u .same, p .weigh .room, z .within);
+            limit = omega (arith, limit, z .within);
+            weights = λ k h. rw (weight-is k (omega (arith, z .within))) (low-most middle k);
           }
 
-      module _ {x : List ℕ} (g : Ran mv first second (d .by) n depth b x) where
-        sum-is : (ph : Phase) (s : ℕ) → sumOf mv b (d .by) n ph s (depth + 1) ≡ gathered a 1000000 (a / 1000000) depth (λ k. valueOf mv (length mv) q ph k s)
+      module _ {x : List ℕ} (g : Ran mv first second (d .by) n last b x) where
+        -- the steps after the last with a weight add nothing
+        rest-none : (ph : Phase) (s : ℕ) → sumOf mv b (d .by) n ph s (last + 1) ≡ sumOf mv b (d .by) n ph s (depth + 1)
+        rest-none ph s =
+            sum-rest-none (λ k. part (at b (8 * n + k)) (valueOf mv (length mv) (d .by) ph k s)) (last + 1) (depth + 1) (omega (arith, z .within))
+            (λ k h l. rw (i .after (8 * n + k) (omega arith), z .none k (omega arith) (omega arith)) (omega arith))
+
+        sum-is : (ph : Phase) (s : ℕ) → sumOf mv b (d .by) n ph s (last + 1) ≡ gathered a 1000000 (a / 1000000) depth (λ k. valueOf mv (length mv) q ph k s)
         unfolding gathered
         sum-is ph s =
-            rw (e .is, add-one)
+            rw (rest-none ph s, e .is, add-one)
             (sum-cong (λ k. part (at b (8 * n + k)) (valueOf mv (length mv) q ph k s))
             (λ k. part (low a 1000000 (a / 1000000) k) (valueOf mv (length mv) q ph k s)) (suc depth)
             (λ k h. rw (weight-is k (omega arith)) refl))
 
         most-is : (ph : Phase) → ((s : ℕ) → s < n → ph .start s ≤ 1) → (s : ℕ) → s < n
-            → sumOf mv b (d .by) n ph s (depth + 1) * 4194304 ≤ total a 1000000 (a / 1000000) depth * one
+            → sumOf mv b (d .by) n ph s (last + 1) * 4194304 ≤ total a 1000000 (a / 1000000) depth * one
         most-is ph starts s h =
             rw (sum-is ph s)
             (gathered-most a 1000000 (a / 1000000) depth (λ k. valueOf mv (length mv) q ph k s)
@@ -142,4 +151,4 @@ module _ {mv l first second : List ℕ} {n q a depth : ℕ} (p : SummedAsked mv 
               beyond = λ k y. o .after k (omega arith) ∙ g .after k (omega arith) ∙ i .after k (omega arith) ∙ u .beyond k y;
             }
 
-pub ruleset summed-laws = (may-weigh, some-rate, small-rate, may-begin, may-run, may-end, is-summed)
+pub ruleset summed-laws = (may-weigh, some-rate, small-rate, may-look, may-begin, may-run, may-end, is-summed)

@@ -38,6 +38,18 @@ pub record Weighed (n a depth : ℕ) (l₀ l : List ℕ) (r : ℕ) : Type 0 wher
   pub before : (k : ℕ) → k < 8 * n → at l k ≡ at l₀ k
   pub beyond : (k : ℕ) → 8 * n + depth < k → at l k ≡ at l₀ k
 
+-- the last step with a weight is to be found
+pub record LastAsked (l : List ℕ) (n depth : ℕ) : Type 0 where
+  pub states : n ≤ 512
+  pub limit : depth < 1024
+  pub room : 8 * n + depth < length l
+
+-- from that step on, through the depth, all weights are 0; its own is not, unless it is step 0
+pub record Last (n depth : ℕ) (l : List ℕ) (r : ℕ) : Type 0 where
+  pub within : r ≤ depth
+  pub above : 0 < r → 0 < at l (8 * n + r)
+  pub none : (k : ℕ) → r < k → k ≤ depth → at l (8 * n + k) ≡ 0
+
 -- sums to be put over the total
 pub record EndsAsked (l first second : List ℕ) (n total : ℕ) : Type 0 where
   pub states : n ≤ 512

@@ -4,7 +4,7 @@
 // rates begin at 6 * n, the row ends at 7 * n, the weights at 8 * n.
 ghost use mathlib.Core.Path.{_≡_};
 ghost use Rattle.bounds.specs.Values as values;
-ghost use Rattle.until.specs.Asked.{depthOf, Loaded, WeighAsked, Weighed, EndsAsked, Ended, StillAsked, Still, SummedAsked, Summed, UntilAsked, Until};
+ghost use Rattle.until.specs.Asked.{depthOf, Loaded, WeighAsked, Weighed, LastAsked, Last, EndsAsked, Ended, StillAsked, Still, SummedAsked, Summed, UntilAsked, Until};
 use division::Divisor;
 
 // Ends count in billionths; rates count moves per million hours.
@@ -28,6 +28,21 @@ pub fn weigh(words: &mut [u64], n: usize, a: u64, depth: usize) -> u64
     let m = (a / RATE_HOURS) as usize;
     let from = 8 * n;
     weights::weigh(&mut words[from..], m, depth, a, RATE_HOURS)
+}
+
+// The last step whose weight is above 0, from word 8 * n on: the steps after it, through the depth, add nothing to any sum.
+fn last_weighed(words: &[u64], n: usize, depth: usize) -> usize
+    requires { ⌜ LastAsked (now words) n depth ⌝ }
+    ensures { λ r. ⌜ Last n depth (now (words .entry)) r ⌝ }
+{
+    let mut k = depth;
+    while 0 < k {
+        if words[8 * n + k] != 0 {
+            return k;
+        }
+        k -= 1;
+    }
+    k
 }
 
 // An end where the operands' verdicts leave it open, else the point end.
@@ -89,8 +104,9 @@ pub fn summed(
 {
     let d = Divisor::new(q);
     let total = weigh(words, n, a, depth);
+    let last = last_weighed(words, n, depth);
     sums::begin(words, second, n);
-    sums::run(moves, words, first, second, d, n, depth);
+    sums::run(moves, words, first, second, d, n, last);
     ends(words, first, second, n, total);
 }
 

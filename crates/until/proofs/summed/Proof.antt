@@ -9,6 +9,9 @@ new-requires c κs = search needs
 weigh-requires : tie.Need-weigh-requires
 weigh-requires c κs = search needs
 
+last-weighed-requires : tie.Need-last-weighed-requires
+last-weighed-requires c κs = search (needs, summed-laws)
+
 begin-requires : tie.Need-begin-requires
 begin-requires c κs = search needs
 
@@ -16,7 +19,8 @@ run-requires : tie.Need-run-requires
 run-requires c κs = search (needs, summed-laws)
 
 ends-requires : tie.Need-ends-requires
-ends-requires c κs = may-end (c .before .before .before .before .before .before .before .before .before .before .before .before .before .before .before .before .before .before .pre) (c .before .before .before .before .before .before .before .before .before .before .before .weigh .ensures) (c .before .before .before .before .before .before .before .begin .ensures) (c .before .before .before .before .before .before .before .before .before .before .before .before .before .new .ensures) (c .before .before .before .run .ensures)
+ends-requires c κs =
+    may-end (c .before .before .before .before .before .before .before .before .before .before .before .before .before .before .before .before .before .before .before .before .pre) (c .before .before .before .before .before .before .before .before .before .before .before .before .before .weigh .ensures) (c .before .before .before .before .before .before .before .before .before .last-weighed .ensures) (c .before .before .before .before .before .before .before .begin .ensures) (c .before .before .before .before .before .before .before .before .before .before .before .before .before .before .before .new .ensures) (c .before .before .before .run .ensures)
 
 same-length : tie.Need-same-length
 same-length c = search needs
@@ -30,6 +34,7 @@ summed-spec =
     (tie.spec
     new-requires
     weigh-requires
+    last-weighed-requires
     begin-requires
     run-requires
     ends-requires
