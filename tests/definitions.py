@@ -12,8 +12,7 @@ import subprocess
 import sys
 import tempfile
 
-ROOT = pathlib.Path(__file__).resolve().parent.parent
-VECTORS = ROOT.parent / "shared" / "vectors"
+from tests.places import ROOT, VECTORS
 
 HEAD = """-- Jobs against the definitions, by computation. Assumes nothing.
 use mathlib.Core.Path.{_≡_, refl}

@@ -2,7 +2,6 @@
 import re
 import subprocess
 import unittest
-from pathlib import Path
 
 from examples.generate import SHEETS, texts
 from reckoning.__main__ import read_texts
@@ -10,10 +9,8 @@ from reckoning.formula import P, bounds, operands
 from reckoning.judge import allowed_ends, judge
 from reckoning.refusal import Job, refusal
 from tests.floats import Floats
+from tests.places import EXAMPLES, FOLDERS, ROOT
 
-ROOT = Path(__file__).resolve().parent.parent
-EXAMPLES = ROOT / "examples"
-FOLDERS = sorted(path.parent for path in EXAMPLES.glob("*/moves.txt"))
 PROGRAM = ROOT / "sheetcheck"
 
 BILLION = 1_000_000_000

@@ -2,21 +2,17 @@
 import random
 import resource
 import subprocess
-import tempfile
 import unittest
-from pathlib import Path
 
 from reckoning.backing import TooMany
 from reckoning.judge import judge
-from reckoning.refusal import refusal
 from reckoning.report import read_report, refused
 from tests import limits
+from tests.agreement import refusal_number
 from tests.jobs import damaged_job, labels_text, moves_text, random_job
+from tests.places import DEEP
+from tests.program import run
 
-ROOT = Path(__file__).resolve().parent.parent
-PROGRAM = ROOT / "target" / "bin" / "sheetcheck"
-DEEP = ROOT / "target" / "bin" / "deep_formulas"
-NAMES = ("moves.txt", "labels.txt", "formula.txt")
 DAMAGED = 3_000
 MADE = 300
 WIDEST = 3                  # billionths, where no operand state is undecided
@@ -24,15 +20,6 @@ STACK = 1 << 20             # bytes that the program gets by with
 READING_STACK = 1 << 18     # and the readers
 HEAD = b"from,to,rate\n"
 SMALL = b"state,up,dead\n0,1,0\n1,0,1\n"
-
-
-def run(job, stack=None):
-    """What the program prints for a job."""
-    limit = (lambda: resource.setrlimit(resource.RLIMIT_STACK, (stack, stack))) if stack else None
-    with tempfile.TemporaryDirectory() as folder:
-        for name, text in zip(NAMES, job):
-            (Path(folder) / name).write_bytes(text)
-        return subprocess.run([PROGRAM], cwd=folder, stdout=subprocess.PIPE, check=True, preexec_fn=limit).stdout
 
 
 class Program(unittest.TestCase):
@@ -99,12 +86,6 @@ class Program(unittest.TestCase):
         told = subprocess.run([DEEP], stdout=subprocess.PIPE, check=True, preexec_fn=limit).stdout
         self.assertEqual(set(told.split()), {b"ok"})
         self.assertGreater(len(told.split()), 50)
-
-
-def refusal_number(job):
-    """The number that the second reckoning refuses a job with; none if it accepts the job."""
-    number = refusal(*job)
-    return number if isinstance(number, int) else None
 
 
 def narrow_jobs():

@@ -1,0 +1,64 @@
+"""Whether what the library did with a job, or a printed answer, agrees with the second reckoning and with document 01.
+
+Faults are told in words; none where all is as it should be. `TooMany` is raised where the second reckoning gives up, as the rules leave too
+many ways to back the report; the number and the memory have been looked at by then.
+"""
+from ctypes import sizeof
+
+from reckoning.judge import judge
+from reckoning.refusal import needed, refusal
+from reckoning.report import HEAD, refused
+from reckoning.verdict import WORDS
+from tests.library import GUARD, KINDS, Memory
+
+REPORT = ("lower", "upper", "verdicts", "depth")    # what an accepted job leaves to be judged; the other buffers it leaves at 0
+NONE = Memory(*[0] * len(Memory._fields))
+
+
+def refusal_number(job, lent=None):
+    """The number that the second reckoning refuses a job with; none if it accepts the job."""
+    reckoned = refusal(*job, lent)
+    return reckoned if isinstance(reckoned, int) else None
+
+
+def library_faults(job, called):
+    """The faults of a call of the library."""
+    reckoned = refusal(*job, called.lent)
+    number = reckoned if isinstance(reckoned, int) else 0
+    if called.number != number:
+        return [f"number {called.number}, should be {number}"]
+    faults = memory_faults(job, called, NONE if number else Memory(*needed(reckoned), 1))
+    if faults or number:
+        return faults
+    return judge(*job, printed(called, reckoned.chain.states), called.lent)
+
+
+def memory_faults(job, called, written):
+    """What is not as it should be after a call that may write so many elements of each buffer."""
+    faults = [f"{name} or a guard of it is not as it should be" for name in Memory._fields
+              if getattr(called.after, name) != wanted(name, called, getattr(written, name))]
+    return faults + ([] if called.texts == tuple(job) else ["a text has changed"])
+
+
+def wanted(name, called, count):
+    """What a buffer must hold: in its first `count` elements the report, as it is, or zeros; all the rest as it was."""
+    start, end = (edge * sizeof(getattr(KINDS, name)) for edge in (GUARD, GUARD + count))
+    before, after = getattr(called.before, name), getattr(called.after, name)
+    return before[:start] + (after[start:end] if name in REPORT else bytes(end - start)) + before[end:]
+
+
+def printed(called, states):
+    """What the program prints where the library did this; a byte that is no verdict is shown as a number."""
+    if called.number:
+        return refused(called.number)
+    lower, upper, verdicts = (elements(called, name, states) for name in REPORT[:3])
+    depths = elements(called, "depth", 1) * states
+    words = [WORDS[byte] if byte < len(WORDS) else byte for byte in verdicts]
+    rows = zip(range(states), lower, upper, depths, words)
+    return HEAD + b"\n" + "".join(",".join(map(str, row)) + "\n" for row in rows).encode()
+
+
+def elements(called, name, count):
+    """The first elements of what is lent, after the call."""
+    kind = getattr(KINDS, name)
+    return list((kind * count).from_buffer_copy(getattr(called.after, name), GUARD * sizeof(kind)))

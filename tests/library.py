@@ -1,0 +1,98 @@
+"""The static library from Python, called with lent buffers of given lengths.
+
+Each lent buffer, and the place of the depth, is filled with a pattern and has guard elements, of the pattern too, before and after the lent
+part. A call answers with all of it as it was and as it is, so that a test can say of each byte whether it may have changed.
+"""
+import ctypes
+import random
+import subprocess
+from collections import namedtuple
+
+from reckoning.refusal import Lent
+from tests.places import ARCHIVE, ROOT, TARGET
+
+SHARED = TARGET / "library" / "libsebdyqul.so"
+
+# All that a call writes to: the six lent buffers, and the depth as a seventh.
+Memory = namedtuple("Memory", (*Lent._fields, "depth"))
+NUMBER, BYTE, WORD = ctypes.c_uint32, ctypes.c_uint8, ctypes.c_uint64
+KINDS = Memory(lower=NUMBER, upper=NUMBER, verdicts=BYTE, moves=WORD, vectors=WORD, marks=BYTE, depth=WORD)
+
+ENOUGH = Lent(lower=512, upper=512, verdicts=512, moves=4_096, vectors=5_632, marks=32_768)     # for every job
+GUARD = 67                  # elements, an odd number: no lent part is aligned for more than its own type
+MORE = 64                   # elements that can be lent beyond `ENOUGH`
+PATTERN = 1 << 20           # bytes
+
+# What a call did: its answer, the lent lengths, the bytes of the memory with its guards before and after, and the texts after.
+Called = namedtuple("Called", "number lent before after texts")
+
+
+def build(shared=SHARED, sources=()):
+    """The library as a shared object, linked again where the archive or a source is newer; C sources may be linked with it."""
+    build_archive()
+    newest = max(path.stat().st_mtime for path in (ARCHIVE, *sources))
+    if not shared.exists() or shared.stat().st_mtime < newest:
+        shared.parent.mkdir(parents=True, exist_ok=True)
+        whole = ["-Wl,--whole-archive", ARCHIVE, "-Wl,--no-whole-archive"]
+        subprocess.run(["cc", "-Wall", "-Wextra", "-Werror", "-O2", "-fPIC", "-shared", "-o", shared, *sources, *whole], check=True)
+    return shared
+
+
+def build_archive():
+    """Proves and writes the static library where it is not there."""
+    if not ARCHIVE.exists():
+        subprocess.run(["rt", "staticlib", "sebdyqul"], cwd=ROOT, check=True, stdout=subprocess.DEVNULL)
+
+
+class Buffer:
+    """Memory for one lent buffer of any length up to `most`, and its guards."""
+
+    def __init__(self, kind, most):
+        self.size, self.most = ctypes.sizeof(kind), most
+        self.memory = (kind * (most + 2 * GUARD))()
+        self.start = ctypes.addressof(self.memory)
+        self.lent = self.start + GUARD * self.size
+
+    def bytes_of(self, length):
+        """How many bytes so many elements and the guards have."""
+        if not 0 <= length <= self.most:
+            raise ValueError(f"{length} elements of {self.most}")
+        return (length + 2 * GUARD) * self.size
+
+    def fill(self, part):
+        """Lays down these bytes, guards first, and answers with them."""
+        ctypes.memmove(self.start, part, len(part))
+        return part
+
+    def read(self, length):
+        return ctypes.string_at(self.start, self.bytes_of(length))
+
+
+class Library:
+    """The library, loaded. Calls share the memory of their buffers, so one is made at a time."""
+
+    def __init__(self, shared=None, seed=4):
+        self.shared = ctypes.CDLL(str(shared or build()))
+        self.function = self.shared.sebdyqul_check
+        self.function.restype = ctypes.c_uint64
+        text, buffer = [ctypes.c_char_p, ctypes.c_size_t], [ctypes.c_void_p, ctypes.c_size_t]
+        self.function.argtypes = text * 3 + buffer * len(ENOUGH) + [ctypes.c_void_p]
+        self.memory = Memory(*(Buffer(kind, most + MORE) for kind, most in zip(KINDS, (*ENOUGH, 0))))
+        self.rng = random.Random(seed)
+        self.pattern = self.rng.randbytes(PATTERN)
+
+    def part(self, length):
+        """So many bytes of the pattern, from a random place on."""
+        at = self.rng.randrange(PATTERN - length)
+        return self.pattern[at:at + length]
+
+    def check(self, job, lent=ENOUGH):
+        """Calls `sebdyqul_check` for a job with buffers of these lengths."""
+        lengths = (*lent, 1)
+        before = Memory(*(buffer.fill(self.part(buffer.bytes_of(length))) for buffer, length in zip(self.memory, lengths)))
+        texts = [bytes(bytearray(text)) for text in job]
+        words = [word for text in texts for word in (text, len(text))]
+        words += [word for buffer, length in zip(self.memory, lent) for word in (buffer.lent, length)]
+        number = self.function(*words, self.memory.depth.lent)
+        after = Memory(*(buffer.read(length) for buffer, length in zip(self.memory, lengths)))
+        return Called(number, Lent(*lent), before, after, tuple(texts))

@@ -1,0 +1,78 @@
+"""That a call of the library which did something wrong is told: each part of a good call is falsified in turn."""
+import unittest
+from ctypes import sizeof
+
+from reckoning.refusal import needed, refusal
+from tests.agreement import library_faults, printed
+from tests.jobs import labels_text, moves_text
+from tests.library import GUARD, KINDS, Library, Memory
+
+MOVES = moves_text([(0, 1, 500), (1, 2, 700)])
+LABELS = labels_text([b"up", b"dead"], [[1, 0], [1, 0], [0, 1]])
+ACCEPTED = MOVES, LABELS, b"P < 500000000 U 8 up dead\n"
+REFUSED = MOVES, LABELS, b"gas\n"
+
+
+def changed(called, name, at):
+    """The call with one byte of a buffer other than it was left."""
+    data = bytearray(getattr(called.after, name))
+    data[at] ^= 0x5A
+    return called._replace(after=called.after._replace(**{name: bytes(data)}))
+
+
+class Falsified(unittest.TestCase):
+    def setUp(self):
+        self.library = Library()
+        self.accepted, self.refused = self.library.check(ACCEPTED), self.library.check(REFUSED)
+
+    def test_the_calls_themselves_have_no_faults(self):
+        self.assertEqual(library_faults(ACCEPTED, self.accepted), [])
+        self.assertEqual(library_faults(REFUSED, self.refused), [])
+
+    def test_numbers(self):
+        for number in range(1, 17):
+            self.assertEqual(library_faults(ACCEPTED, self.accepted._replace(number=number)), [f"number {number}, should be 0"])
+        self.assertEqual(library_faults(REFUSED, self.refused._replace(number=0)), ["number 0, should be 12"])
+
+    def test_bytes_of_a_refused_call(self):
+        for name in Memory._fields:
+            for at in range(0, len(getattr(self.refused.after, name)), 101):
+                self.assertTrue(library_faults(REFUSED, changed(self.refused, name, at)), (name, at))
+
+    def test_bytes_of_an_accepted_call(self):
+        """The guards, the first and the last element that is written, and the one after it."""
+        need = Memory(*needed(refusal(*ACCEPTED)), 1)
+        for name in Memory._fields:
+            size, whole = sizeof(getattr(KINDS, name)), len(getattr(self.accepted.after, name))
+            start, end = GUARD * size, (GUARD + getattr(need, name)) * size
+            for at in (0, start - 1, start + size - 1, end - 1, end, whole - 1):
+                self.assertTrue(library_faults(ACCEPTED, changed(self.accepted, name, at)), (name, at))
+
+    def test_zeros_left_unwritten(self):
+        for name in ("moves", "vectors", "marks"):
+            before = getattr(self.accepted.before, name)
+            told = library_faults(ACCEPTED, self.accepted._replace(after=self.accepted.after._replace(**{name: before})))
+            self.assertEqual(told, [f"{name} or a guard of it is not as it should be"])
+
+    def test_texts(self):
+        for called, job in ((self.accepted, ACCEPTED), (self.refused, REFUSED)):
+            self.assertEqual(library_faults(job, called._replace(texts=(b"", *job[1:]))), ["a text has changed"])
+
+    def test_a_byte_that_is_no_verdict(self):
+        told = library_faults(ACCEPTED, changed(self.accepted, "verdicts", GUARD))
+        self.assertEqual(len(told), 1)
+        self.assertIn("verdict", told[0])
+
+
+class Printed(unittest.TestCase):
+    def test_small_sheet(self):
+        """What document 01 prints in full, and a refusal."""
+        sheet = moves_text([(0, 1, 500)]), labels_text([b"up", b"dead"], [[1, 0], [0, 1]])
+        library = Library()
+        self.assertEqual(printed(library.check((*sheet, b"P >= 1000000000 U 0 up dead\n")), 2),
+                         b"state,lower,upper,depth,verdict\n0,0,0,40,no\n1,1000000000,1000000000,40,yes\n")
+        self.assertEqual(printed(library.check((*sheet, b"\n")), 2), b"refused\n10\n")
+
+
+if __name__ == "__main__":
+    unittest.main()

@@ -1,0 +1,150 @@
+"""The static library against the second reckoning, document 01 and the program: numbers, reports, and what happens to the lent memory."""
+import random
+import unittest
+from concurrent.futures import ThreadPoolExecutor
+
+from reckoning.__main__ import read_texts
+from reckoning.backing import TooMany
+from reckoning.refusal import Lent, needed, refusal
+from tests import limits
+from tests.agreement import library_faults, printed, refusal_number
+from tests.jobs import damaged_job, random_job
+from tests.library import ENOUGH, Library
+from tests.places import FOLDERS
+from tests.program import run
+
+DAMAGED = 5_000
+MADE = 600
+AS_PROGRAM = 120
+AT_ONCE = 10
+NOTHING = Lent(0, 0, 0, 0, 0, 0)
+ONES = Lent(1, 1, 1, 1, 1, 1)
+
+
+class LibraryTest(unittest.TestCase):
+    """A test that calls the library."""
+
+    @classmethod
+    def setUpClass(cls):
+        cls.library = Library()
+
+    def agrees(self, job, lent=ENOUGH):
+        """What the call did, once it has no faults, and whether the second reckoning could judge all of it."""
+        called = self.library.check(job, lent)
+        try:
+            self.assertEqual(library_faults(job, called), [], (job, lent))
+        except TooMany:
+            return called, False
+        return called, True
+
+
+class Jobs(LibraryTest):
+    """Made jobs, damaged ones and those at the limits."""
+
+    def test_damaged_jobs(self):
+        rng = random.Random(11)
+        called, judged = zip(*(self.agrees(damaged_job(rng)) for _ in range(DAMAGED)))
+        self.assertGreater(sum(judged), 0.9 * DAMAGED)
+        self.assertLessEqual({0, 1, 2, 3, 4, 6, 8, 9, 10, 12, 13}, {each.number for each in called})
+
+    def test_made_jobs(self):
+        rng = random.Random(12)
+        called, judged = zip(*(self.agrees(random_job(rng)) for _ in range(MADE)))
+        self.assertGreater(sum(judged), 0.9 * MADE)
+        self.assertEqual({each.number for each in called}, {0})
+
+    def test_limits(self):
+        for name, (meets, passes) in limits.pairs().items():
+            with self.subTest(name):
+                self.assertNotEqual(self.agrees(meets)[0].number, self.agrees(passes)[0].number)
+
+    def test_examples(self):
+        for folder in FOLDERS:
+            with self.subTest(folder.name):
+                self.assertEqual(self.agrees(read_texts(folder))[0].number, 0)
+
+    def test_says_what_the_program_prints(self):
+        rng = random.Random(13)
+        jobs = [make(rng) for _ in range(AS_PROGRAM // 2) for make in (random_job, damaged_job)]
+        for job in jobs + [read_texts(folder) for folder in FOLDERS]:
+            self.assertEqual(printed(self.library.check(job), states_of(job)), run(job), job)
+
+    def test_two_at_once(self):
+        """Two threads that call at the same time, each with its own buffers, get what one gets by itself."""
+        jobs = [read_texts(folder) for folder in FOLDERS] * AT_ONCE
+        alone = [printed(self.library.check(job), states_of(job)) for job in jobs]
+
+        def each(_):
+            library = Library()
+            return [printed(library.check(job), states_of(job)) for job in jobs]
+        with ThreadPoolExecutor(2) as threads:
+            self.assertEqual(list(threads.map(each, range(2))), [alone, alone])
+
+
+class Buffers(LibraryTest):
+    """Lent buffers that are just long enough, and too short."""
+
+    def accepted_jobs(self):
+        """Jobs whose six lengths are all above 0, and the lengths."""
+        rng = random.Random(14)
+        jobs = [read_texts(folder) for folder in FOLDERS] + [random_job(rng) for _ in range(25)]
+        jobs += [limits.load(64_000_000, 1), limits.moves(4_096), limits.nodes(64)]
+        found = [(job, needed(refusal(*job))) for job in jobs]
+        return [(job, need) for job, need in found if need.moves]
+
+    def test_exactly_as_needed(self):
+        for job, need in self.accepted_jobs():
+            self.assertEqual(self.agrees(job, need)[0].number, 0)
+
+    def test_one_short(self):
+        for job, need in self.accepted_jobs():
+            for name in Lent._fields:
+                with self.subTest(name):
+                    short = need._replace(**{name: getattr(need, name) - 1})
+                    self.assertEqual(self.agrees(job, short)[0].number, 15)
+                    self.assertEqual(self.agrees(job, ENOUGH._replace(**{name: getattr(short, name)}))[0].number, 15)
+
+    def test_none_lent(self):
+        for job, need in self.accepted_jobs():
+            self.assertEqual(self.agrees(job, NOTHING)[0].number, 15)
+            for name in Lent._fields:
+                with self.subTest(name):
+                    self.assertEqual(self.agrees(job, need._replace(**{name: 0}))[0].number, 15)
+
+    def test_two_short(self):
+        rng = random.Random(15)
+        for job, need in self.accepted_jobs():
+            names = rng.sample(Lent._fields, 2)
+            short = need._replace(**{name: rng.randrange(getattr(need, name)) for name in names})
+            self.assertEqual(self.agrees(job, short)[0].number, 15)
+
+    def test_no_moves_need_no_words(self):
+        job = limits.states(2)
+        self.assertEqual(self.agrees(job, needed(refusal(*job)))[0].number, 0)
+        self.assertEqual(needed(refusal(*job)).moves, 0)
+
+    def test_other_numbers_come_first(self):
+        """A job that is refused with 1 to 14 keeps its number whatever is lent."""
+        found = refused_jobs()
+        self.assertEqual(sorted(found), list(range(1, 15)))
+        for number, job in found.items():
+            for lent in (NOTHING, ONES, ENOUGH):
+                self.assertEqual(self.agrees(job, lent)[0].number, number)
+
+
+def refused_jobs():
+    """A job for each number that the texts alone can be refused with."""
+    rng = random.Random(16)
+    jobs = [damaged_job(rng) for _ in range(DAMAGED)] + [job for pair in limits.pairs().values() for job in pair]
+    found = {refusal_number(job): job for job in jobs}
+    del found[None]
+    return found
+
+
+def states_of(job):
+    """The states of a labels text whose lines are good."""
+    return job[1].count(b"\n") - 1
+
+
+if __name__ == "__main__":
+    unittest.main()
