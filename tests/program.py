@@ -15,9 +15,9 @@ def put(job, folder):
         (Path(folder) / name).write_bytes(text)
 
 
-def run(job, stack=None):
-    """What the program prints for a job."""
+def run(job, stack=None, command=(PROGRAM,)):
+    """What the program, or another command, prints for a job in the folder that it is run in."""
     limit = (lambda: resource.setrlimit(resource.RLIMIT_STACK, (stack, stack))) if stack else None
     with tempfile.TemporaryDirectory() as folder:
         put(job, folder)
-        return subprocess.run([PROGRAM], cwd=folder, stdout=subprocess.PIPE, check=True, preexec_fn=limit).stdout
+        return subprocess.run(command, cwd=folder, stdout=subprocess.PIPE, check=True, preexec_fn=limit).stdout

@@ -1,0 +1,89 @@
+//! Checks the sheet in a folder with the static library and prints what the program prints: the report, or `refused` and the number.
+//!
+//! library/README.md has the command that builds it.
+
+mod sebdyqul;
+
+use sebdyqul::{Answer, Lent, MARKS, NO, RESULTS, UNDECIDED, VECTORS, WORDS, YES};
+use std::io::{BufWriter, Result, Write};
+use std::path::Path;
+
+/// The results of a job, and all else that is lent to it: enough for every job.
+struct Buffers {
+    lower: [u32; RESULTS],
+    upper: [u32; RESULTS],
+    verdicts: [u8; RESULTS],
+    words: Vec<u64>,
+    vectors: Vec<u64>,
+    marks: Vec<u8>,
+}
+
+impl Buffers {
+    fn new() -> Buffers {
+        Buffers {
+            lower: [0; RESULTS],
+            upper: [0; RESULTS],
+            verdicts: [0; RESULTS],
+            words: vec![0; WORDS],
+            vectors: vec![0; VECTORS],
+            marks: vec![0; MARKS],
+        }
+    }
+
+    fn lend(&mut self) -> Lent<'_> {
+        Lent {
+            lower: &mut self.lower,
+            upper: &mut self.upper,
+            verdicts: &mut self.verdicts,
+            words: &mut self.words,
+            vectors: &mut self.vectors,
+            marks: &mut self.marks,
+        }
+    }
+}
+
+/// A file of the folder; one that cannot be read counts as empty.
+fn read_text(folder: &Path, name: &str) -> Vec<u8> {
+    std::fs::read(folder.join(name)).unwrap_or_default()
+}
+
+/// The states of an accepted job: the lines of its labels text, without the first.
+fn states(labels: &[u8]) -> usize {
+    labels.iter().filter(|&&byte| byte == b'\n').count() - 1
+}
+
+/// The word for a verdict byte.
+fn word(verdict: u8) -> &'static str {
+    match verdict {
+        NO => "no",
+        YES => "yes",
+        UNDECIDED => "undecided",
+        _ => unreachable!("the library writes no other byte"),
+    }
+}
+
+/// Prints the report that the buffers hold.
+fn print_report(out: &mut impl Write, buffers: &Buffers, states: usize, depth: u64) -> Result<()> {
+    writeln!(out, "state,lower,upper,depth,verdict")?;
+    for state in 0..states {
+        let (lower, upper) = (buffers.lower[state], buffers.upper[state]);
+        writeln!(out, "{state},{lower},{upper},{depth},{}", word(buffers.verdicts[state]))?;
+    }
+    Ok(())
+}
+
+fn main() -> Result<()> {
+    let arguments: Vec<_> = std::env::args_os().collect();
+    let [_, folder] = arguments.as_slice() else {
+        eprintln!("usage: example-rs FOLDER");
+        std::process::exit(2);
+    };
+    let [moves, labels, formula] = ["moves.txt", "labels.txt", "formula.txt"].map(|name| read_text(Path::new(folder), name));
+    let mut buffers = Buffers::new();
+    let mut out = BufWriter::new(std::io::stdout().lock());
+    match sebdyqul::check(&moves, &labels, &formula, buffers.lend()) {
+        Answer::Accepted { depth } => print_report(&mut out, &buffers, states(&labels), depth)?,
+        Answer::Refused(number) => writeln!(out, "refused\n{number}")?,
+    }
+    out.flush()
+}

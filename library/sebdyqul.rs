@@ -1,0 +1,115 @@
+//! Sebdyqul for Rust programs: one safe function over what `sebdyqul.h` declares.
+//!
+//! Slices and exclusive borrows are all that the header asks of a caller: each leads to as many elements as it has, is aligned, and none
+//! that is written to overlaps another. So no call of `check` can be a wrong one.
+
+/// Lengths that are enough for every job. A job with n states, m move lines and k nodes in its formula needs n results, m words,
+/// 10 × n + 512 vectors and k × n marks.
+pub const RESULTS: usize = 512;
+pub const WORDS: usize = 4_096;
+pub const VECTORS: usize = 5_632;
+pub const MARKS: usize = 32_768;
+
+/// What a byte of `verdicts` says.
+pub const NO: u8 = 0;
+pub const YES: u8 = 1;
+pub const UNDECIDED: u8 = 2;
+
+/// What a caller lends for one job. A length of 0 will do where nothing is needed.
+pub struct Lent<'a> {
+    pub lower: &'a mut [u32],
+    pub upper: &'a mut [u32],
+    pub verdicts: &'a mut [u8],
+    pub words: &'a mut [u64],
+    pub vectors: &'a mut [u64],
+    pub marks: &'a mut [u8],
+}
+
+/// How a job ended.
+#[derive(Clone, Copy, Debug, PartialEq, Eq)]
+pub enum Answer {
+    /// The report is in the first n elements of `lower`, `upper` and `verdicts`; its lines show this depth.
+    Accepted { depth: u64 },
+    /// The number of the refusal, 1 to 15. What was lent is as it was.
+    Refused(u64),
+}
+
+extern "C" {
+    fn sebdyqul_check(
+        moves: *const u8, moves_length: usize,
+        labels: *const u8, labels_length: usize,
+        formula: *const u8, formula_length: usize,
+        lower: *mut u32, lower_length: usize,
+        upper: *mut u32, upper_length: usize,
+        verdicts: *mut u8, verdicts_length: usize,
+        words: *mut u64, words_length: usize,
+        vectors: *mut u64, vectors_length: usize,
+        marks: *mut u8, marks_length: usize,
+        depth: *mut u64,
+    ) -> u64;
+}
+
+/// Checks a job: a moves text, a labels text and a formula, as bytes.
+pub fn check(moves: &[u8], labels: &[u8], formula: &[u8], lent: Lent<'_>) -> Answer {
+    let mut depth = 0;
+    // SAFETY: each pointer and length is that of a slice, so it is not null, aligned, and leads to so many elements; those that are
+    // written to are borrowed exclusively, so none overlaps another or a text.
+    let number = unsafe {
+        sebdyqul_check(
+            moves.as_ptr(), moves.len(),
+            labels.as_ptr(), labels.len(),
+            formula.as_ptr(), formula.len(),
+            lent.lower.as_mut_ptr(), lent.lower.len(),
+            lent.upper.as_mut_ptr(), lent.upper.len(),
+            lent.verdicts.as_mut_ptr(), lent.verdicts.len(),
+            lent.words.as_mut_ptr(), lent.words.len(),
+            lent.vectors.as_mut_ptr(), lent.vectors.len(),
+            lent.marks.as_mut_ptr(), lent.marks.len(),
+            &mut depth,
+        )
+    };
+    match number {
+        0 => Answer::Accepted { depth },
+        _ => Answer::Refused(number),
+    }
+}
+
+#[cfg(test)]
+mod tests {
+    use super::*;
+
+    /// Two states, one move line, three nodes, and the lengths that these need.
+    const JOB: [&[u8]; 3] = [b"from,to,rate\n0,1,500\n", b"state,up,dead\n0,1,0\n1,0,1\n", b"P < 1 U 8 up dead\n"];
+    const NEEDED: [usize; 6] = [2, 2, 2, 1, 532, 6];
+
+    /// What the job ends with where so many elements of each buffer are lent.
+    fn answer(lent: [usize; 6]) -> Answer {
+        let [mut lower, mut upper] = [vec![7; lent[0]], vec![7; lent[1]]];
+        let [mut verdicts, mut marks] = [vec![7; lent[2]], vec![7; lent[5]]];
+        let [mut words, mut vectors] = [vec![7; lent[3]], vec![7; lent[4]]];
+        let lent = Lent {
+            lower: &mut lower,
+            upper: &mut upper,
+            verdicts: &mut verdicts,
+            words: &mut words,
+            vectors: &mut vectors,
+            marks: &mut marks,
+        };
+        let [moves, labels, formula] = JOB;
+        check(moves, labels, formula, lent)
+    }
+
+    #[test]
+    fn exactly_what_is_needed_will_do() {
+        assert_eq!(answer(NEEDED), Answer::Accepted { depth: 42 });
+    }
+
+    #[test]
+    fn one_less_of_any_is_refused() {
+        for at in 0..NEEDED.len() {
+            let mut short = NEEDED;
+            short[at] -= 1;
+            assert_eq!(answer(short), Answer::Refused(15), "{short:?}");
+        }
+    }
+}
