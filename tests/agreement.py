@@ -5,6 +5,7 @@ many ways to back the report; the number and the memory have been looked at by t
 """
 from ctypes import sizeof
 
+from reckoning.backing import TooMany
 from reckoning.judge import judge
 from reckoning.refusal import needed, refusal
 from reckoning.report import HEAD, refused
@@ -19,6 +20,14 @@ def refusal_number(job, lent=None):
     """The number that the second reckoning refuses a job with; none if it accepts the job."""
     reckoned = refusal(*job, lent)
     return reckoned if isinstance(reckoned, int) else None
+
+
+def tried(faults, *arguments):
+    """What a function makes of an answer: its faults, or None where the second reckoning gives up."""
+    try:
+        return faults(*arguments)
+    except TooMany:
+        return None
 
 
 def library_faults(job, called):

@@ -4,10 +4,9 @@ import unittest
 from concurrent.futures import ThreadPoolExecutor
 
 from reckoning.__main__ import read_texts
-from reckoning.backing import TooMany
 from reckoning.refusal import Lent, needed, refusal
 from tests import limits
-from tests.agreement import library_faults, printed, refusal_number
+from tests.agreement import library_faults, printed, refusal_number, tried
 from tests.jobs import damaged_job, random_job
 from tests.library import ENOUGH, Library
 from tests.places import FOLDERS
@@ -31,11 +30,9 @@ class LibraryTest(unittest.TestCase):
     def agrees(self, job, lent=ENOUGH):
         """What the call did, once it has no faults, and whether the second reckoning could judge all of it."""
         called = self.library.check(job, lent)
-        try:
-            self.assertEqual(library_faults(job, called), [], (job, lent))
-        except TooMany:
-            return called, False
-        return called, True
+        faults = tried(library_faults, job, called)
+        self.assertFalse(faults, (job, lent))
+        return called, faults is not None
 
 
 class Jobs(LibraryTest):

@@ -4,11 +4,10 @@ import resource
 import subprocess
 import unittest
 
-from reckoning.backing import TooMany
 from reckoning.judge import judge
 from reckoning.report import read_report, refused
 from tests import limits
-from tests.agreement import refusal_number
+from tests.agreement import refusal_number, tried
 from tests.jobs import damaged_job, labels_text, moves_text, random_job
 from tests.places import DEEP
 from tests.program import run
@@ -25,12 +24,9 @@ SMALL = b"state,up,dead\n0,1,0\n1,0,1\n"
 class Program(unittest.TestCase):
     def agrees(self, job, **more):
         """Whether the job was judged: the rest have too many ways to back a report."""
-        answer = run(job, **more)
-        try:
-            self.assertEqual(judge(*job, answer), [], job)
-        except TooMany:
-            return False
-        return True
+        faults = tried(judge, *job, run(job, **more))
+        self.assertFalse(faults, job)
+        return faults is not None
 
     def test_damaged_jobs(self):
         rng = random.Random(1)

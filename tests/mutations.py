@@ -1,0 +1,92 @@
+"""Jobs made from other jobs: bytes, lines and tokens changed, parts of two jobs put together, and lent lengths about what is needed.
+
+Unlike `jobs.damaged`, which breaks the layout more often than not, most of these keep it, so that the later tests of document 01 are reached.
+"""
+import re
+
+from reckoning.refusal import Lent, needed, refusal
+from tests.jobs import SIGNS, damaged
+from tests.library import ENOUGH, MORE
+
+SEPARATORS = re.compile(rb"([, \n])")
+NUMBERS = [b"%d" % number for number in (0, 1, 2, 3, 5, 40, 64, 511, 512, 4_096, 8_760, 8_761, 1_000_000, 63_999_999, 64_000_000,
+                                         64_000_001, 10**9 - 1, 10**9, 10**9 + 1, 10**10 - 1, 10**10)]
+WORDS = [b"tt", b"state", b"up", b"dead", b"a", b"abcdefghijkl", b"abcdefghijklm", b"", b"00", b"01", b"U", b"\xff"]
+OPERATORS = [b"! ", b"& tt ", b"& up ", b"P < 1 U 1 tt ", b"P >= 500000000 U 8760 up ", b"P > 0 U 0 "]
+MOST_CHANGES = 4
+
+
+def with_token(rng, text):
+    """A field or token replaced: a number mostly by one near it or at some limit, anything else by another token."""
+    parts = SEPARATORS.split(text)
+    at = rng.randrange(0, len(parts), 2)
+    kinds = [near_number, any_number, any_number, any_token] if parts[at].isdigit() else [any_token]
+    parts[at] = rng.choice(kinds)(rng, parts, at)
+    return b"".join(parts)
+
+
+def near_number(rng, parts, at):
+    return b"%d" % max(0, int(parts[at]) + rng.choice([-1_000, -2, -1, 1, 2, 1_000]))
+
+
+def any_number(rng, parts, at):
+    return rng.choice(NUMBERS)
+
+
+def any_token(rng, parts, at):
+    """One that stands elsewhere in the text, or one that means something in some text."""
+    return rng.choice([parts[rng.randrange(0, len(parts), 2)], rng.choice(NUMBERS), rng.choice(WORDS), rng.choice(SIGNS)])
+
+
+def with_operators(rng, text):
+    """Operators put in before some token, once or many times."""
+    at = rng.choice([0, *(found.end() for found in re.finditer(rb" ", text))])
+    return text[:at] + rng.choice(OPERATORS) * rng.choice([1, 1, 2, 8, 14, 15, 16, 60]) + text[at:]
+
+
+def with_lines_again(rng, text):
+    """A line repeated, where lines are numbered with the numbers going on."""
+    lines = text.splitlines(keepends=True)
+    at, times = rng.randrange(len(lines)), rng.choice([1, 2, 8, 64, 600])
+    head, comma, rest = lines[at].partition(b",")
+    if head.isdigit() and rng.random() < 0.8:
+        more = [b"%d" % (int(head) + step) + comma + rest for step in range(1, times + 1)]
+    else:
+        more = [lines[at]] * times
+    return b"".join(lines[:at + 1] + more + lines[at + 1:])
+
+
+def spliced(rng, one, other):
+    """The beginning of a text and the end of another, cut between lines, tokens or bytes."""
+    pattern = rng.choice([rb"\n", rb"[, \n]", rb""])
+    cuts = [rng.choice([found.end() for found in re.finditer(pattern, text)] or [0]) for text in (one, other)]
+    return one[:cuts[0]] + other[cuts[1]:]
+
+
+def mutated(rng, job, other):
+    """A job changed in a few places; `other` is a second job to take parts from."""
+    texts = list(job)
+    for _ in range(rng.randint(1, MOST_CHANGES)):
+        which = rng.choice([0, 1, 2, 2])
+        kind = rng.choice(["damage", "token", "token", "token", "lines", "splice", "take", "operators"])
+        if kind == "take":
+            texts[which] = other[which]
+        elif kind == "splice":
+            texts[which] = spliced(rng, texts[which], other[which])
+        elif kind == "damage" or not texts[which]:
+            texts[which] = damaged(rng, texts[which])
+        elif kind == "token":
+            texts[which] = with_token(rng, texts[which])
+        else:
+            texts[which] = (with_operators if which == 2 else with_lines_again)(rng, texts[which])
+    return tuple(texts)
+
+
+def some_lent(rng, job):
+    """Lent lengths for a job: just enough, one short, long, or anything."""
+    reckoned = refusal(*job)
+    if isinstance(reckoned, int) or rng.random() < 0.1:
+        return Lent(*(rng.choice([0, 1, rng.randint(0, most), most]) for most in ENOUGH))
+    exact, name = needed(reckoned), rng.choice(Lent._fields)
+    more = getattr(exact, name) + rng.choice([-1, 1, MORE])
+    return rng.choice([exact, exact._replace(**{name: max(0, more)}), Lent(*(most + MORE for most in ENOUGH))])

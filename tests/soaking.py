@@ -1,0 +1,65 @@
+"""Many jobs, made and damaged from a seed, put to the static library and every so often to the program, and judged by the second reckoning."""
+import random
+import time
+from collections import Counter, namedtuple
+
+from tests.agreement import library_faults, printed, tried
+from tests.jobs import damaged_job, random_job
+from tests.library import ENOUGH
+from tests.mutations import mutated, some_lent
+from tests.program import run
+
+PROGRAM_EVERY = 25          # jobs
+LENT_EVERY = 3              # jobs with lent lengths of their own
+SAID_EVERY = 10             # seconds
+
+# How a soak ended: what was counted, and the job, the lent lengths and the faults of the first disagreement, if there was one.
+Ended = namedtuple("Ended", "counts job lent faults")
+
+
+def some_job(rng):
+    """A made job, small or larger, a damaged one, or one made of two."""
+    kind = rng.randrange(10)
+    if kind == 0:
+        return random_job(rng, most_states=24, levels=3, most_load=64)
+    if kind <= 3:
+        return random_job(rng)
+    return damaged_job(rng) if kind <= 6 else mutated(rng, random_job(rng), random_job(rng))
+
+
+def program_faults(job, called):
+    """The faults of what the program prints, where the library was lent enough for the same job."""
+    said = printed(called, job[1].count(b"\n") - 1)
+    return [] if run(job) == said else ["the program prints something else than the library says"]
+
+
+def try_job(library, job, lent, by_program):
+    """What the library did, and the faults of it and of the program; None where the second reckoning gives up."""
+    called = library.check(job, lent)
+    faults = tried(library_faults, job, called)
+    if by_program and not faults:
+        faults = program_faults(job, called) or faults
+    return called, faults
+
+
+def soak(count, seed, library, say=print):
+    """Tries so many jobs, and stops at the first that there are faults with."""
+    rng, counts, said = random.Random(seed), Counter(), time.monotonic()
+    for at in range(1, count + 1):
+        job, by_program = some_job(rng), at % PROGRAM_EVERY == 0
+        lent = some_lent(rng, job) if at % LENT_EVERY == 0 and not by_program else ENOUGH
+        called, faults = try_job(library, job, lent, by_program)
+        counts.update(["jobs", called.number] + ["by the program"] * by_program + ["given up"] * (faults is None))
+        if faults:
+            return Ended(counts, job, lent, faults)
+        if time.monotonic() - said >= SAID_EVERY:
+            said = time.monotonic()
+            say(told(counts))
+    return Ended(counts, None, None, [])
+
+
+def told(counts):
+    """The counts in a line."""
+    refused = ", ".join(f"{number}: {counts[number]}" for number in range(1, 16) if counts[number])
+    return (f"{counts['jobs']} jobs, {counts['by the program']} of them by the program too; {counts[0]} accepted; refused {refused or 'none'}; "
+            f"{counts['given up']} given up by the judge")
