@@ -13,6 +13,7 @@ from reckoning.verdict import WORDS
 from tests.library import GUARD, KINDS, Memory
 
 REPORT = ("lower", "upper", "verdicts", "depth")    # what an accepted job leaves to be judged; the other buffers it leaves at 0
+MOST_STATES = 512
 NONE = Memory(*[0] * len(Memory._fields))
 
 
@@ -30,14 +31,14 @@ def tried(faults, *arguments):
         return None
 
 
-def library_faults(job, called):
-    """The faults of a call of the library."""
+def library_faults(job, called, most_states=MOST_STATES):
+    """The faults of a call of the library; a report of more states than this is not judged."""
     reckoned = refusal(*job, called.lent)
     number = reckoned if isinstance(reckoned, int) else 0
     if called.number != number:
         return [f"number {called.number}, should be {number}"]
     faults = memory_faults(job, called, NONE if number else Memory(*needed(reckoned), 1))
-    if faults or number:
+    if faults or number or reckoned.chain.states > most_states:
         return faults
     return judge(*job, printed(called, reckoned.chain.states), called.lent)
 

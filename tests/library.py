@@ -1,7 +1,8 @@
 """The static library from Python, called with lent buffers of given lengths.
 
 Each lent buffer, and the place of the depth, is filled with a pattern and has guard elements, of the pattern too, before and after the lent
-part. A call answers with all of it as it was and as it is, so that a test can say of each byte whether it may have changed.
+part. A call answers with all of it as it was and as it is, so that a test can say of each byte whether it may have changed. Each text ends
+where the process has no more memory.
 """
 import ctypes
 import random
@@ -9,6 +10,7 @@ import subprocess
 from collections import namedtuple
 
 from reckoning.refusal import Lent
+from tests.fenced import Fenced
 from tests.places import ARCHIVE, ROOT, TARGET
 
 SHARED = TARGET / "library" / "libsebdyqul.so"
@@ -22,6 +24,7 @@ ENOUGH = Lent(lower=512, upper=512, verdicts=512, moves=4_096, vectors=5_632, ma
 GUARD = 67                  # elements, an odd number: no lent part is aligned for more than its own type
 MORE = 64                   # elements that can be lent beyond `ENOUGH`
 PATTERN = 1 << 20           # bytes
+TEXT = 1 << 20              # bytes that a text may have
 
 # What a call did: its answer, the lent lengths, the bytes of the memory with its guards before and after, and the texts after.
 Called = namedtuple("Called", "number lent before after texts")
@@ -75,8 +78,8 @@ class Library:
         self.shared = ctypes.CDLL(str(shared or build()))
         self.function = self.shared.sebdyqul_check
         self.function.restype = ctypes.c_uint64
-        text, buffer = [ctypes.c_char_p, ctypes.c_size_t], [ctypes.c_void_p, ctypes.c_size_t]
-        self.function.argtypes = text * 3 + buffer * len(ENOUGH) + [ctypes.c_void_p]
+        self.function.argtypes = [ctypes.c_void_p, ctypes.c_size_t] * (3 + len(ENOUGH)) + [ctypes.c_void_p]
+        self.texts = [Fenced(TEXT) for _ in range(3)]
         self.memory = Memory(*(Buffer(kind, most + MORE) for kind, most in zip(KINDS, (*ENOUGH, 0))))
         self.rng = random.Random(seed)
         self.pattern = self.rng.randbytes(PATTERN)
@@ -90,9 +93,9 @@ class Library:
         """Calls `sebdyqul_check` for a job with buffers of these lengths."""
         lengths = (*lent, 1)
         before = Memory(*(buffer.fill(self.part(buffer.bytes_of(length))) for buffer, length in zip(self.memory, lengths)))
-        texts = [bytes(bytearray(text)) for text in job]
-        words = [word for text in texts for word in (text, len(text))]
+        words = [word for place, text in zip(self.texts, job) for word in (place.put(text), len(text))]
         words += [word for buffer, length in zip(self.memory, lent) for word in (buffer.lent, length)]
         number = self.function(*words, self.memory.depth.lent)
         after = Memory(*(buffer.read(length) for buffer, length in zip(self.memory, lengths)))
-        return Called(number, Lent(*lent), before, after, tuple(texts))
+        texts = tuple(place.read(len(text)) for place, text in zip(self.texts, job))
+        return Called(number, Lent(*lent), before, after, texts)

@@ -5,7 +5,7 @@ Unlike `jobs.damaged`, which breaks the layout more often than not, most of thes
 import re
 
 from reckoning.refusal import Lent, needed, refusal
-from tests.jobs import SIGNS, damaged
+from tests.jobs import SIGNS, damaged, random_job
 from tests.library import ENOUGH, MORE
 
 SEPARATORS = re.compile(rb"([, \n])")
@@ -17,25 +17,23 @@ MOST_CHANGES = 4
 
 
 def with_token(rng, text):
-    """A field or token replaced: a number mostly by one near it or at some limit, anything else by another token."""
+    """A field or token replaced by one that stands elsewhere in the text, or by one that means something in some text."""
     parts = SEPARATORS.split(text)
-    at = rng.randrange(0, len(parts), 2)
-    kinds = [near_number, any_number, any_number, any_token] if parts[at].isdigit() else [any_token]
-    parts[at] = rng.choice(kinds)(rng, parts, at)
+    others = [rng.choice(parts[::2]), rng.choice(NUMBERS), rng.choice(WORDS), rng.choice(SIGNS)]
+    parts[rng.randrange(0, len(parts), 2)] = rng.choice(others)
     return b"".join(parts)
 
 
-def near_number(rng, parts, at):
-    return b"%d" % max(0, int(parts[at]) + rng.choice([-1_000, -2, -1, 1, 2, 1_000]))
-
-
-def any_number(rng, parts, at):
-    return rng.choice(NUMBERS)
-
-
-def any_token(rng, parts, at):
-    """One that stands elsewhere in the text, or one that means something in some text."""
-    return rng.choice([parts[rng.randrange(0, len(parts), 2)], rng.choice(NUMBERS), rng.choice(WORDS), rng.choice(SIGNS)])
+def with_number(rng, text):
+    """A number replaced by one near it or at some limit; a token where there is no number."""
+    parts = SEPARATORS.split(text)
+    places = [at for at, part in enumerate(parts) if part.isdigit()]
+    if not places:
+        return with_token(rng, text)
+    at = rng.choice(places)
+    near = b"%d" % max(0, int(parts[at]) + rng.choice([-1_000, -2, -1, 1, 2, 1_000]))
+    parts[at] = rng.choice([near, rng.choice(NUMBERS)])
+    return b"".join(parts)
 
 
 def with_operators(rng, text):
@@ -47,7 +45,7 @@ def with_operators(rng, text):
 def with_lines_again(rng, text):
     """A line repeated, where lines are numbered with the numbers going on."""
     lines = text.splitlines(keepends=True)
-    at, times = rng.randrange(len(lines)), rng.choice([1, 2, 8, 64, 600])
+    at, times = rng.randrange(len(lines)), rng.choice([1, 1, 1, 2, 2, 8, 64, 600])
     head, comma, rest = lines[at].partition(b",")
     if head.isdigit() and rng.random() < 0.8:
         more = [b"%d" % (int(head) + step) + comma + rest for step in range(1, times + 1)]
@@ -68,18 +66,27 @@ def mutated(rng, job, other):
     texts = list(job)
     for _ in range(rng.randint(1, MOST_CHANGES)):
         which = rng.choice([0, 1, 2, 2])
-        kind = rng.choice(["damage", "token", "token", "token", "lines", "splice", "take", "operators"])
+        kind = rng.choice(["damage", "token", "number", "number", "more", "splice", "take"])
         if kind == "take":
             texts[which] = other[which]
         elif kind == "splice":
             texts[which] = spliced(rng, texts[which], other[which])
         elif kind == "damage" or not texts[which]:
             texts[which] = damaged(rng, texts[which])
-        elif kind == "token":
-            texts[which] = with_token(rng, texts[which])
+        elif kind in ("token", "number"):
+            texts[which] = (with_token if kind == "token" else with_number)(rng, texts[which])
         else:
             texts[which] = (with_operators if which == 2 else with_lines_again)(rng, texts[which])
     return tuple(texts)
+
+
+def bent_job(rng):
+    """A made job whose layout is kept, so that it is the later tests that it fails: one number replaced, or operators put into the formula."""
+    moves, labels, formula = random_job(rng)
+    kind = rng.randrange(3)
+    if kind == 0:
+        return with_number(rng, moves), labels, formula
+    return moves, labels, (with_number if kind == 1 else with_operators)(rng, formula)
 
 
 def some_lent(rng, job):

@@ -6,7 +6,7 @@ from collections import Counter, namedtuple
 from tests.agreement import library_faults, printed, tried
 from tests.jobs import damaged_job, random_job
 from tests.library import ENOUGH
-from tests.mutations import mutated, some_lent
+from tests.mutations import bent_job, mutated, some_lent
 from tests.program import run
 
 PROGRAM_EVERY = 25          # jobs
@@ -18,13 +18,15 @@ Ended = namedtuple("Ended", "counts job lent faults")
 
 
 def some_job(rng):
-    """A made job, small or larger, a damaged one, or one made of two."""
+    """A made job, small or larger, a damaged or a bent one, or one made of two."""
     kind = rng.randrange(10)
     if kind == 0:
         return random_job(rng, most_states=24, levels=3, most_load=64)
-    if kind <= 3:
+    if kind <= 2:
         return random_job(rng)
-    return damaged_job(rng) if kind <= 6 else mutated(rng, random_job(rng), random_job(rng))
+    if kind <= 4:
+        return damaged_job(rng)
+    return bent_job(rng) if kind <= 7 else mutated(rng, random_job(rng), random_job(rng))
 
 
 def program_faults(job, called):

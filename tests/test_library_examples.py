@@ -1,4 +1,4 @@
-"""The examples in C and Rust: built with the commands of library/README.md, they print what the program prints, within the stack that the header names."""
+"""The examples in C and Rust, built with the commands of library/README.md: they print what the program prints, and need no more stack than told."""
 import random
 import re
 import shlex
