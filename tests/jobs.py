@@ -7,8 +7,9 @@ from reckoning.chain import Chain
 
 MOST_RATE = 64_000_000
 MOST_LOAD = 64_000_000
-NAMES = [b"up", b"dead", b"power", b"gamma", b"locator", b"gun", b"wet", b"hot"]
+NAMES = [b"up", b"dead", b"power", b"gamma", b"locator", b"gun", b"wet", b"hot", b"t", b"ta", b"tta", b"s", b"stat", b"states", b"abcdefghijkl"]
 SIGNS = [b"<", b"<=", b">=", b">"]
+TELLING = b"0123456789,\n aPU!&tx<=>z/:`{+-\x1f\r\t\x00\x8a\xff"    # bytes that mean something, and those just beside them
 
 
 def moves_text(moves):
@@ -25,7 +26,7 @@ class Sheet:
 
     def __init__(self, rng, most_states=6):
         self.states = rng.randint(1, most_states)
-        self.names = rng.sample(NAMES, rng.randint(1, 4))
+        self.names = rng.sample(NAMES, rng.choice([1, 2, 3, 4, len(NAMES)]))
         self.rows = [[rng.randint(0, 1) for _ in self.names] for _ in range(self.states)]
         self.moves = self.random_moves(rng)
         self.chain = Chain(self.states, {(a, b): rate for a, b, rate in self.moves}, {})
@@ -34,13 +35,13 @@ class Sheet:
 
     def random_moves(self, rng):
         scale = rng.choice([1, 50, 1_000, 1_000_000, 8_000_000])
-        dense = rng.random()
+        dense, least = rng.random(), rng.choice([1, 1, 1, scale])
         moves = []
         for a in range(self.states):
             left = MOST_RATE
             for b in range(self.states):
                 if a != b and rng.random() < dense and left:
-                    rate = min(left, rng.randint(1, scale))
+                    rate = min(left, rng.randint(least, scale))
                     left -= rate
                     moves.append((a, b, rate))
         return moves
@@ -105,13 +106,13 @@ def damaged(rng, text):
     at = rng.randrange(len(text))
     kind = rng.choice(["change", "drop", "double", "insert", "swap lines", "double line", "drop line", "cut"])
     if kind == "change":
-        return text[:at] + bytes([rng.choice(b"0123456789,\n aPU!&tx<=>\r\x00\xff")]) + text[at + 1:]
+        return text[:at] + bytes([rng.choice(TELLING)]) + text[at + 1:]
     if kind == "drop":
         return text[:at] + text[at + 1:]
     if kind == "double":
         return text[:at] + text[at:at + 1] + text[at:]
     if kind == "insert":
-        return text[:at] + bytes([rng.choice(b"0123456789,\n aPU!&tx")]) + text[at:]
+        return text[:at] + bytes([rng.choice(TELLING)]) + text[at:]
     if kind == "cut":
         return text[:at]
     lines = text.splitlines(keepends=True)

@@ -76,7 +76,7 @@ def pairs():
         "nodes": (nodes(64), nodes(65)),
         "rates": (rates(64_000_000), rates(64_000_001)),
         "load": (load(64_000_000, 1), load(64_000_000, 2)),
-        "load by one": (load(8_000_000, 8), load(8_000_001, 8)),
+        "load by one": (load(160_000, 400), load(159_601, 401)),
         "hours": (small(b"P < 1 U 8760 up dead"), small(b"P < 1 U 8761 up dead")),
         "threshold": (small(b"P < 1000000000 U 1 up dead"), small(b"P < 1000000001 U 1 up dead")),
         "digits in the formula": (small(b"P < 1000000000 U 1 up dead"), small(b"P < 10000000000 U 1 up dead")),

@@ -11,23 +11,30 @@ from tests.library import ENOUGH, MORE
 SEPARATORS = re.compile(rb"([, \n])")
 NUMBERS = [b"%d" % number for number in (0, 1, 2, 3, 5, 40, 64, 511, 512, 4_096, 8_760, 8_761, 1_000_000, 63_999_999, 64_000_000,
                                          64_000_001, 10**9 - 1, 10**9, 10**9 + 1, 10**10 - 1, 10**10)]
-WORDS = [b"tt", b"state", b"up", b"dead", b"a", b"abcdefghijkl", b"abcdefghijklm", b"", b"00", b"01", b"U", b"\xff"]
+WORDS = [b"tt", b"state", b"up", b"dead", b"t", b"tta", b"abcdefghijkl", b"abcdefghijklm", b"", b"00", b"01", b"U", b"\xff"]
 OPERATORS = [b"! ", b"& tt ", b"& up ", b"P < 1 U 1 tt ", b"P >= 500000000 U 8760 up ", b"P > 0 U 0 "]
 MOST_CHANGES = 4
+MOST_DIGITS = 20
 
 
 def with_token(rng, text):
-    """A field or token replaced by one that stands elsewhere in the text, or by one that means something in some text."""
+    """A field or token replaced by its beginning, by one that stands elsewhere in the text, or by one that means something in some text."""
     parts = SEPARATORS.split(text)
-    others = [rng.choice(parts[::2]), rng.choice(NUMBERS), rng.choice(WORDS), rng.choice(SIGNS)]
-    parts[rng.randrange(0, len(parts), 2)] = rng.choice(others)
+    at = rng.randrange(0, len(parts), 2)
+    begun = parts[at][:rng.randint(0, len(parts[at]))]
+    parts[at] = rng.choice([begun, rng.choice(parts[::2]), rng.choice(NUMBERS), rng.choice(WORDS), rng.choice(SIGNS)])
     return b"".join(parts)
+
+
+def is_number(part):
+    """Whether a part is digits, so few that a number near it can be reckoned."""
+    return part.isdigit() and len(part) <= MOST_DIGITS
 
 
 def with_number(rng, text):
     """A number replaced by one near it or at some limit; a token where there is no number."""
     parts = SEPARATORS.split(text)
-    places = [at for at, part in enumerate(parts) if part.isdigit()]
+    places = [at for at, part in enumerate(parts) if is_number(part)]
     if not places:
         return with_token(rng, text)
     at = rng.choice(places)
@@ -47,7 +54,7 @@ def with_lines_again(rng, text):
     lines = text.splitlines(keepends=True)
     at, times = rng.randrange(len(lines)), rng.choice([1, 1, 1, 2, 2, 8, 64, 600])
     head, comma, rest = lines[at].partition(b",")
-    if head.isdigit() and rng.random() < 0.8:
+    if is_number(head) and rng.random() < 0.8:
         more = [b"%d" % (int(head) + step) + comma + rest for step in range(1, times + 1)]
     else:
         more = [lines[at]] * times
