@@ -19,6 +19,7 @@ AS_PROGRAM = 120
 AT_ONCE = 10
 NOTHING = Lent(0, 0, 0, 0, 0, 0)
 ONES = Lent(1, 1, 1, 1, 1, 1)
+FEW = Lent(lower=8, upper=8, verdicts=8, moves=8, vectors=600, marks=200)
 
 
 class LibraryTest(unittest.TestCase):
@@ -77,6 +78,34 @@ class Jobs(LibraryTest):
             return [printed(library.check(job), states_of(job)) for job in jobs]
         with ThreadPoolExecutor(2) as threads:
             self.assertEqual(list(threads.map(each, range(2))), [alone, alone])
+
+
+class EveryByte(LibraryTest):
+    """Sheets with long numbers and names, in which each byte is replaced, dropped and cut at, one at a time."""
+
+    SHEETS = (
+        (b"from,to,rate\n0,1,12345678\n1,0,63999999\n", b"state,up,abcdefghijkl,t\n0,1,0,1\n1,0,1,0\n", b"& ! up P >= 123456789 U 1 abcdefghijkl t\n"),
+        (b"from,to,rate\n123456789,987654321,555555555\n", b"state\n0\n", b"tt\n"),
+        (b"from,to,rate\n", b"state\n123456789\n", b"tt\n"),
+        (b"from,to,rate\n", b"state\n0\n", b"P < 1987654321 U 1876543219 tt ! & tt tt\n"),
+        (b"from,to,rate\n", b"state,ta\n0,1\n", b"P <= 1000000000 U 8760 ta ! ta\n"),
+    )
+    ALWAYS = b"/09:`az{,\n \x00\xff"
+
+    def changed(self):
+        """Every sheet with one change in one of its texts."""
+        for sheet in self.SHEETS:
+            for which, text in enumerate(sheet):
+                for at, byte in enumerate(text):
+                    others = {byte - 1, byte + 1, byte ^ 0x80, byte ^ 0x20, *self.ALWAYS} - {byte}
+                    changes = [text[:at] + bytes([other]) + text[at + 1:] for other in sorted(others)]
+                    for change in (*changes, text[:at], text[:at] + b"\n", text[:at] + text[at + 1:], text[:at + 1] + text[at:]):
+                        yield (*sheet[:which], change, *sheet[which + 1:])
+
+    def test_numbers(self):
+        called = [self.agrees(job, FEW)[0] for job in self.changed()]
+        self.assertGreater(len(called), 5_000)
+        self.assertLessEqual({0, 1, 2, 3, 4, 6, 7, 9, 10, 12, 13, 14}, {each.number for each in called})
 
 
 class Buffers(LibraryTest):
