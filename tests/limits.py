@@ -23,8 +23,8 @@ def names(count):
     return b"from,to,rate\n", labels_text(words, [[1] * count]), words[-1] + b"\n"
 
 
-def letters(count):
-    return b"from,to,rate\n", labels_text([b"a" * count], [[1]]), b"tt\n"
+def named(*words):
+    return b"from,to,rate\n", labels_text(words, [[1] * len(words)]), b"tt\n"
 
 
 def levels(count):
@@ -71,7 +71,11 @@ def pairs():
         "states": (states(512), states(513)),
         "moves": (moves(4096), moves(4097)),
         "names": (names(16), names(17)),
-        "letters": (letters(12), letters(13)),
+        "letters": (named(b"a" * 12), named(b"a" * 13)),
+        "a name tt": (named(b"t", b"ta", b"at", b"tta"), named(b"t", b"ta", b"tt")),
+        "a name state": (named(b"stat", b"states"), named(b"stat", b"state")),
+        "a name again": (named(b"up", b"upper", b"u"), named(b"up", b"upper", b"up")),
+        "an empty name": (named(), named(b"")),
         "levels": (levels(16), levels(17)),
         "nodes": (nodes(64), nodes(65)),
         "rates": (rates(64_000_000), rates(64_000_001)),
