@@ -3,7 +3,6 @@
 A job that reaches a block for the first time joins the corpus, from which the next jobs are made. The trying is done in a process of its own,
 so that a crash ends that one only and the job is still known.
 """
-import json
 import multiprocessing
 import random
 import signal
@@ -14,6 +13,7 @@ from reckoning.__main__ import read_texts
 from tests import limits
 from tests.agreement import library_faults, tried
 from tests.coverage import Covered
+from tests.definitions import vectors
 from tests.jobs import random_job
 from tests.library import ENOUGH
 from tests.mutations import mutated, some_lent
@@ -38,10 +38,8 @@ Ended = namedtuple("Ended", "reached unseen job lent faults")
 def seeds(rng):
     """The jobs to begin with: the examples, the vectors where they are there, the limits, and a few small made ones."""
     jobs = [tuple(read_texts(folder)) for folder in FOLDERS]
-    for path in sorted(VECTORS.glob("*.jsonl")):
-        for line in path.read_text().splitlines():
-            vector = json.loads(line)
-            jobs.append(tuple(vector[name].encode("latin-1") for name in ("moves", "labels", "formula")))
+    if VECTORS.is_dir():
+        jobs += [(vector["moves"], vector["labels"], vector["formula"]) for vector in vectors(3 * MOST_BYTES)]
     jobs += [job for pair in limits.pairs().values() for job in pair]
     return jobs + [random_job(rng) for _ in range(MADE_SEEDS)]
 

@@ -7,6 +7,7 @@ where the process has no more memory.
 import ctypes
 import random
 import subprocess
+import sys
 from collections import namedtuple
 
 from reckoning.refusal import Lent
@@ -44,7 +45,7 @@ def build(shared=SHARED, sources=()):
 def build_archive():
     """Proves and writes the static library where it is not there."""
     if not ARCHIVE.exists():
-        subprocess.run(["rt", "staticlib", "sebdyqul"], cwd=ROOT, check=True, stdout=subprocess.DEVNULL)
+        subprocess.run(["rt", "staticlib", "sebdyqul"], cwd=ROOT, check=True, stdout=sys.stderr)
 
 
 class Buffer:

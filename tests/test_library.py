@@ -84,7 +84,8 @@ class EveryByte(LibraryTest):
     """Sheets with long numbers and names, in which each byte is replaced, dropped and cut at, one at a time."""
 
     SHEETS = (
-        (b"from,to,rate\n0,1,12345678\n1,0,63999999\n", b"state,up,abcdefghijkl,t\n0,1,0,1\n1,0,1,0\n", b"& ! up P >= 123456789 U 1 abcdefghijkl t\n"),
+        (b"from,to,rate\n0,1,12345678\n1,0,63999999\n", b"state,up,abcdefghijkl,t\n0,1,0,1\n1,0,1,0\n",
+         b"& ! up P >= 123456789 U 1 abcdefghijkl t\n"),
         (b"from,to,rate\n123456789,987654321,555555555\n", b"state\n0\n", b"tt\n"),
         (b"from,to,rate\n", b"state\n123456789\n", b"tt\n"),
         (b"from,to,rate\n", b"state\n0\n", b"P < 1987654321 U 1876543219 tt ! & tt tt\n"),
