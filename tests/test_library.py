@@ -13,7 +13,7 @@ from tests.mutations import bent_job
 from tests.places import FOLDERS
 from tests.program import run
 
-DAMAGED = 5_000
+DAMAGED = 3_000
 MADE = 600
 AS_PROGRAM = 120
 AT_ONCE = 10
