@@ -1,0 +1,73 @@
+"""The bars of the bench: what the figures have to keep to."""
+from collections import namedtuple
+
+from measuring import balls_agree, doubles_agree, width
+
+MOST_OVER_DOUBLES = 3
+LEAST_UNDER_BALLS = 15
+MOST_OVER_UNTILS = 1.3
+JUDGED_DEPTH = 168                      # the whole job is judged at this depth, and told of the others
+MOST_RESIDENT = 4096                    # KB
+GOAL_WIDTH = 2                          # billionths; a goal and no bar
+
+# What is asked, what was found, and whether that meets it; only a bar that is `judged` makes the bench fail.
+Bar = namedtuple("Bar", "asked found met judged")
+
+
+def over_doubles(rows):
+    """The engine against the doubles, in every row."""
+    over = [row.engine / row.doubles for row in rows]
+    return Bar(f"engine at most {MOST_OVER_DOUBLES} times the doubles in every row", f"{min(over):.2f} to {max(over):.2f}",
+               max(over) <= MOST_OVER_DOUBLES, True)
+
+
+def under_balls(rows):
+    """The engine against the balls, in every row: against the same loop, and as a thing to be told against Arb's dot product."""
+    for name, told_as in (("balls", "Arb"), ("dot", "Arb's dot product")):
+        asked = f"engine at least {LEAST_UNDER_BALLS} times faster than {told_as} in every row"
+        if any(row.balls is None for row in rows):
+            yield Bar(asked, "Arb is not there", None, False)
+        else:
+            under = [getattr(row, name) / row.engine for row in rows]
+            yield Bar(asked, f"{min(under):.1f} to {max(under):.1f}", min(under) >= LEAST_UNDER_BALLS, name == "balls")
+
+
+def over_untils(rows):
+    """The whole job against its until, one bar for each depth."""
+    for depth in sorted({row.depth for row in rows}, reverse=True):
+        over = [row.job / row.engine for row in rows if row.depth == depth]
+        yield Bar(f"whole job at most {MOST_OVER_UNTILS} times its until at depth {depth}", f"{min(over):.2f} to {max(over):.2f}",
+                  max(over) <= MOST_OVER_UNTILS, depth == JUDGED_DEPTH)
+
+
+def of_footprints(footprints):
+    """Resident memory and stack, the greatest of what was run."""
+    resident = max(each.resident for each in footprints)
+    yield Bar("resident memory at most 4 MB", f"{resident} KB", resident <= MOST_RESIDENT, True)
+    printed = all(each.printed for each in footprints)
+    found = f"{max(each.stack for each in footprints)} KB do" if printed else "no report under it"
+    yield Bar("stack at most 1 MB", found, printed, True)
+
+
+def of_answers(rows):
+    """That all three compute the same, and how wide the intervals are."""
+    agree = all(doubles_agree(row) and balls_agree(row) is not False for row in rows)
+    yield Bar("answers of doubles and Arb within the intervals in every row", "yes" if agree else "no", agree, True)
+    widest = max(map(width, rows))
+    yield Bar(f"goal: no interval wider than {GOAL_WIDTH} billionths", f"{widest}", widest <= GOAL_WIDTH, False)
+
+
+def bars(rows, others, footprints):
+    """All bars; `others` are rows that only have to agree."""
+    return [over_doubles(rows), *under_balls(rows), *over_untils(rows), *of_footprints(footprints), *of_answers(rows + others)]
+
+
+def told(bar):
+    """A bar as a line."""
+    verdict = {True: "met", False: "NOT met", None: "not measured"}[bar.met]
+    return f"{verdict:<13}{bar.asked}: {bar.found}" + ("" if bar.judged or bar.met is None else "  (told, not judged)")
+
+
+def missed(bar):
+    """Whether this bar makes the bench fail."""
+    return bar.judged and not bar.met

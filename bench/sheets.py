@@ -1,0 +1,52 @@
+"""Writes the sheets of the bench: chains drawn from a seed, always the same for the same numbers."""
+import random
+from collections import namedtuple
+
+TOP_RATE = 1_000_000                    # the greatest exit rate of every sheet: the load of an until over t hours is t
+MOST_MOVES = 4096
+DEAD_OF = 32                            # one state of so many is dead
+
+# A sheet in a folder: its number of states and of moves.
+Sheet = namedtuple("Sheet", "folder states moves")
+
+
+def parts(draw, whole, count):
+    """So many whole numbers from 1 that add up to the whole."""
+    cuts = sorted(draw.sample(range(1, whole), count - 1))
+    return [after - before for before, after in zip([0] + cuts, cuts + [whole])]
+
+
+def row(draw, state, states, per_state):
+    """The moves out of a state, as lines: about so many of them, and exit rates from a third of the greatest up to it, which state 0 has."""
+    count = min(states - 1, draw.randint(per_state - per_state // 3, per_state + per_state // 3))
+    exit_rate = TOP_RATE if state == 0 else draw.randint(TOP_RATE // 3, TOP_RATE)
+    targets = sorted(draw.sample([other for other in range(states) if other != state], count))
+    return [f"{state},{to},{rate}\n" for to, rate in zip(targets, parts(draw, exit_rate, count))]
+
+
+def write(folder, states, per_state):
+    """Writes moves.txt and labels.txt of a sheet with so many states and about so many moves out of each."""
+    draw = random.Random(1000 * states + per_state)
+    dead = set(draw.sample(range(1, states), max(1, states // DEAD_OF)))
+    moves = [line for state in range(states) for line in row(draw, state, states, per_state)]
+    assert len(moves) <= MOST_MOVES
+    labels = [f"{state},{int(state not in dead)},{int(state in dead)}\n" for state in range(states)]
+    folder.mkdir(parents=True, exist_ok=True)
+    (folder / "moves.txt").write_text("".join(["from,to,rate\n"] + moves))
+    (folder / "labels.txt").write_text("".join(["state,up,dead\n"] + labels))
+    return Sheet(folder, states, len(moves))
+
+
+def until(hours):
+    """The question of the bench: does a state come to a dead one within so many hours? No state is undecided below it."""
+    return f"P >= 500000000 U {hours} tt dead"
+
+
+def three_untils(hours):
+    """The same until three times over, judged against three thresholds."""
+    return f"& {until(hours)} & P >= 400000000 U {hours} tt dead P >= 300000000 U {hours} tt dead"
+
+
+def deepest(hours):
+    """As many untils, each inside the other, as a formula may have levels."""
+    return f"P >= 500000000 U {hours} tt " * 15 + "dead"

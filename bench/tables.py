@@ -1,0 +1,72 @@
+"""The figures of the bench as text."""
+from growth import slope, two_terms
+from measuring import balls_agree, doubles_agree, width
+
+HEADS = ["states", "moves", "depth", "doubles", "Arb", "Arb dot", "engine", "again", "reading", "job",
+         "eng/dbl", "Arb/eng", "dot/eng", "job/until", "3 untils", "widest", "dbl in", "Arb in"]
+GROWTH_HEADS = ["states", "moves", "depth", "doubles", "Arb", "engine", "whole job"]
+QUIET = 0.1                             # two ways to one time part by at most this share on a quiet machine
+WORDS = {True: "yes", False: "NO", None: "-"}
+
+
+def laid_out(heads, lines):
+    """A table with its columns at the right."""
+    table = [heads, *lines]
+    widths = [max(len(line[i]) for line in table) for i in range(len(heads))]
+    return "\n".join("  ".join(cell.rjust(width) for cell, width in zip(line, widths)) for line in table)
+
+
+def milliseconds(time):
+    """A time in nanoseconds as milliseconds; a dash for none."""
+    return "-" if time is None else f"{time / 1e6:.4f}" if time < 1e7 else f"{time / 1e6:.2f}"
+
+
+def line_of(row):
+    """A row of the table of times."""
+    times = [row.doubles, row.balls, row.dot, row.engine, row.again, row.reading, row.job]
+    ratios = [f"{row.engine / row.doubles:.2f}",
+              *("-" if time is None else f"{time / row.engine:.1f}" for time in (row.balls, row.dot)),
+              f"{row.job / row.engine:.2f}", f"{row.three / (row.three - row.reading):.2f}"]
+    return [str(row.sheet.states), str(row.sheet.moves), str(row.depth), *map(milliseconds, times), *ratios,
+            str(width(row)), WORDS[doubles_agree(row)], WORDS[balls_agree(row)]]
+
+
+def times_table(rows):
+    """Times in milliseconds, ratios, widths and whether the answers agree."""
+    return laid_out(HEADS, map(line_of, rows))
+
+
+def noise_line(rows):
+    """How far the two ways to the engine's time part, as a sign of how quiet the machine was."""
+    apart = max(abs(row.again / row.engine - 1) for row in rows)
+    busy = "" if apart <= QUIET else ": the machine was too busy for these times, more rounds may help"
+    return f"engine and again part by at most {100 * apart:.0f} %{busy}"
+
+
+def growth_line(row):
+    """A row of the table of growth."""
+    by = row.sheet.moves * row.depth
+    times = [row.doubles, row.balls, row.engine, row.job]
+    return [str(row.sheet.states), str(row.sheet.moves), str(row.depth), *("-" if time is None else f"{time / by:.2f}" for time in times)]
+
+
+def growth_table(rows):
+    """Nanoseconds for each move and step."""
+    return laid_out(GROWTH_HEADS, map(growth_line, rows))
+
+
+def fit_lines(rows, others):
+    """The two fits of the doubles' and the engine's time: the slope over the rows, the two terms over the others too."""
+    lines = []
+    for name in ("doubles", "engine"):
+        power = slope([(row.sheet.moves * row.depth, getattr(row, name)) for row in rows])
+        a, b, miss = two_terms([(row.sheet.states * row.depth, row.sheet.moves * row.depth, getattr(row, name)) for row in rows + others])
+        lines.append(f"{name}: grows as (moves x depth) to the power {power:.3f}; "
+                     f"{a:.2f} ns x states x depth + {b:.2f} ns x moves x depth, no row off by more than {100 * miss:.0f} %")
+    return "\n".join(lines)
+
+
+def footprint_line(found):
+    """What the program takes on one sheet."""
+    stack = f"least stack limit that does: {found.stack} KB" if found.printed else "NO report under a stack limit of 1 MB"
+    return f"{found.told}: resident {found.resident} KB, {stack}"
