@@ -4,10 +4,11 @@ import sys
 from pathlib import Path
 
 HERE = Path(__file__).resolve().parent
-ROOT = HERE.parent
-PLACE = ROOT / "target" / "bench"
-LIBRARY = ROOT / "target" / "staticlib" / "libsebdyqul.a"
-PROGRAM = ROOT / "target" / "bin" / "sheetcheck"
+sys.path.insert(0, str(HERE.parent))
+
+from tests.places import ARCHIVE, PROGRAM, ROOT, TARGET, is_stale
+
+PLACE = TARGET / "bench"
 COMPILER = ["cc", "-O3", "-std=gnu11", "-Wall", "-Wextra"]
 
 # Where Arb may be: since FLINT 3 in its library, before that beside it. Words for the compiler.
@@ -22,11 +23,12 @@ def compile_c(name, sources, *words, quiet=False):
 
 
 def need(path, *words):
-    """Has `rt` prove and build what is to be at the path, where it is not there."""
-    if not path.exists():
-        print(f"{path.relative_to(ROOT)} is not there: building it by `{' '.join(words)}`", flush=True)
+    """Has `rt` prove and build what is to be at the path, where it is not there or older than the crates."""
+    if is_stale(path):
+        print(f"building {path.relative_to(ROOT)} by `{' '.join(words)}`", flush=True)
         if subprocess.run(words, cwd=ROOT, stdout=sys.stderr).returncode != 0 or not path.exists():
             sys.exit(f"bench: `{' '.join(words)}` failed")
+        path.touch()
 
 
 def build_balls():
@@ -37,11 +39,11 @@ def build_balls():
 def build():
     """Builds everything; answers whether Arb is there."""
     PLACE.mkdir(parents=True, exist_ok=True)
-    need(LIBRARY, "rt", "staticlib", "sebdyqul")
+    need(ARCHIVE, "rt", "staticlib", "sebdyqul")
     need(PROGRAM, "rt", "check", "sheetcheck")
     built = [
         compile_c("doubles", ["doubles.c", "sheet.c"]),
-        compile_c("job", ["job.c"], LIBRARY),
+        compile_c("job", ["job.c"], ARCHIVE),
         compile_c("within", ["within.c"]),
     ]
     if not all(built):

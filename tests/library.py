@@ -12,7 +12,7 @@ from collections import namedtuple
 
 from reckoning.refusal import Lent
 from tests.fenced import Fenced
-from tests.places import ARCHIVE, ROOT, TARGET
+from tests.places import ARCHIVE, ROOT, TARGET, is_stale
 
 SHARED = TARGET / "library" / "libsebdyqul.so"
 
@@ -43,9 +43,10 @@ def build(shared=SHARED, sources=()):
 
 
 def build_archive():
-    """Proves and writes the static library where it is not there."""
-    if not ARCHIVE.exists():
+    """Proves and writes the static library where it is not there or no longer that of the crates."""
+    if is_stale(ARCHIVE):
         subprocess.run(["rt", "staticlib", "sebdyqul"], cwd=ROOT, check=True, stdout=sys.stderr)
+        ARCHIVE.touch()
 
 
 class Buffer:

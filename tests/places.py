@@ -1,4 +1,4 @@
-"""Where the tests find what they try."""
+"""Where tests and bench find what they try, and whether that is to be built again."""
 from pathlib import Path
 
 ROOT = Path(__file__).resolve().parent.parent
@@ -9,3 +9,8 @@ ARCHIVE = TARGET / "staticlib" / "libsebdyqul.a"
 EXAMPLES = ROOT / "examples"
 FOLDERS = sorted(path.parent for path in EXAMPLES.glob("*/moves.txt"))
 VECTORS = ROOT.parent / "shared" / "vectors"
+
+
+def is_stale(built):
+    """Whether a file that is built from the crates is not there, or older than one of theirs."""
+    return not built.exists() or any(built.stat().st_mtime < path.stat().st_mtime for path in (ROOT / "crates").rglob("*"))

@@ -3,14 +3,13 @@ import re
 import subprocess
 import tempfile
 import unittest
-from pathlib import Path
 
 from reckoning.refusal import refusal
 from reckoning.report import refused
 from tests.limits import SMALL_LABELS, SMALL_MOVES, load, moves, moves_and, small
+from tests.places import ROOT
+from tests.program import put
 
-ROOT = Path(__file__).resolve().parent.parent
-NAMES = ("moves.txt", "labels.txt", "formula.txt")
 SAMPLE = re.compile(r"^    \$ (\./sheetcheck \S+)\n((?:    .+\n)+)", re.MULTILINE)
 DRAWN = re.compile(r"^    (tools/curve .*) --out (docs/\S+\.svg)$", re.MULTILINE)
 SAID = re.compile(r"sheetcheck: refused, since [a-z].*\.\n")
@@ -42,8 +41,7 @@ def command(folder):
 
 def command_on(job):
     with tempfile.TemporaryDirectory() as folder:
-        for name, text in zip(NAMES, job):
-            (Path(folder) / name).write_bytes(text)
+        put(job, folder)
         return command(folder)
 
 
