@@ -11,7 +11,7 @@ from reckoning.refusal import Job, refusal
 from tests.floats import Floats
 from tests.places import EXAMPLES, FOLDERS, ROOT
 
-PROGRAM = ROOT / "sheetcheck"
+COMMAND = ROOT / "sheetcheck"
 
 BILLION = 1_000_000_000
 CLOSE = 1e-6                # what a double may be off the ends
@@ -20,10 +20,8 @@ INDEX_LINE = re.compile(r"\| `([a-z0-9-]+)` \| (\d+) \| (\d+) \| .*")
 
 
 def printed(folder):
-    """What the program prints for the sheet in a folder. Skips the test that asks while no program is built."""
-    if not PROGRAM.exists():
-        raise unittest.SkipTest(f"no program {PROGRAM.name} is built")
-    return subprocess.run([PROGRAM, folder], stdout=subprocess.PIPE, check=True).stdout
+    """What the command prints for the sheet in a folder."""
+    return subprocess.run([COMMAND, folder], stdout=subprocess.PIPE, check=True).stdout
 
 
 def word(holds):
