@@ -45,6 +45,11 @@ def command_on(job):
         return command(folder)
 
 
+def setUpModule():
+    """The first call may build the program, and says so."""
+    command("examples/small")
+
+
 class Command(unittest.TestCase):
     def test_says_what_each_number_means(self):
         said = {}
