@@ -169,28 +169,31 @@ class Ways(unittest.TestCase):
             self.assertTrue(all(backing.near(rules, job.tree, *off) in found for off in backing.OFFSETS))
 
 
+def random_jobs(random, count, levels):
+    """Jobs of 2 to 4 states: the three texts, and the job as it was read."""
+    for _ in range(count):
+        chain = random_chain(random, states=random.randint(2, 4))
+        job = (*texts(chain), random_formula(random, chain, levels) + b"\n")
+        yield job, refusal(*job)
+
+
 class RandomBackings(unittest.TestCase):
     def test_every_backing_is_allowed(self):
         random, open_ways = Random(13), 0
-        for _ in range(150):
-            chain = random_chain(random, states=random.randint(2, 4))
-            formula = random_formula(random, chain, 4) + b"\n"
-            job = refusal(*texts(chain), formula)
-            self.assertNotIsInstance(job, int)
-            rules = Rules(job.chain)
-            open_ways += len(backing.boxes(rules, job.tree)) > 1
+        for job, read in random_jobs(random, 150, levels=4):
+            self.assertNotIsInstance(read, int)
+            rules = Rules(read.chain)
+            open_ways += len(backing.boxes(rules, read.tree)) > 1
             for _ in range(3):
-                text = printed(random_rows(random, rules, job.tree))
-                self.assertEqual(judge(*texts(chain), formula, text), [], (texts(chain), formula, text))
+                text = printed(random_rows(random, rules, read.tree))
+                self.assertEqual(judge(*job, text), [], (job, text))
         self.assertGreater(open_ways, 3)
 
     def test_allowed_ends_cover_every_backing(self):
         random = Random(14)
-        for _ in range(60):
-            chain = random_chain(random, states=random.randint(2, 4))
-            formula = random_formula(random, chain, 4) + b"\n"
-            job, allowed = refusal(*texts(chain), formula), allowed_ends(*texts(chain), formula)
-            for s, row_ in enumerate(random_rows(random, Rules(job.chain), job.tree)):
+        for job, read in random_jobs(random, 60, levels=4):
+            allowed = allowed_ends(*job)
+            for s, row_ in enumerate(random_rows(random, Rules(read.chain), read.tree)):
                 self.assertTrue(allowed.lower[s][0] <= row_[0] <= allowed.lower[s][1])
                 self.assertTrue(allowed.upper[s][0] <= row_[1] <= allowed.upper[s][1])
                 self.assertIn(row_[3], allowed.verdicts[s])
@@ -198,14 +201,12 @@ class RandomBackings(unittest.TestCase):
 
     def test_one_billionth_beyond_is_not_allowed(self):
         random = Random(15)
-        for _ in range(60):
-            chain = random_chain(random, states=random.randint(2, 4))
-            formula = random_formula(random, chain, 3) + b"\n"
-            job, allowed = refusal(*texts(chain), formula), allowed_ends(*texts(chain), formula)
-            rows = random_rows(random, Rules(job.chain), job.tree)
-            s = random.randrange(chain.states)
+        for job, read in random_jobs(random, 60, levels=3):
+            allowed = allowed_ends(*job)
+            rows = random_rows(random, Rules(read.chain), read.tree)
+            s = random.randrange(read.chain.states)
             for at, value in ((0, allowed.lower[s][1] + 1), (0, allowed.lower[s][0] - 1),
                               (1, allowed.upper[s][1] + 1), (1, allowed.upper[s][0] - 1)):
                 altered = [list(row_) for row_ in rows]
                 altered[s][at] = value
-                self.assertNotEqual(judge(*texts(chain), formula, printed(altered)), [])
+                self.assertNotEqual(judge(*job, printed(altered)), [])
