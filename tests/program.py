@@ -20,4 +20,4 @@ def run(job, stack=None, command=(PROGRAM,)):
     limit = (lambda: resource.setrlimit(resource.RLIMIT_STACK, (stack, stack))) if stack else None
     with tempfile.TemporaryDirectory() as folder:
         put(job, folder)
-        return subprocess.run(command, cwd=folder, stdout=subprocess.PIPE, check=True, preexec_fn=limit).stdout
+        return subprocess.run(command, cwd=folder, stdout=subprocess.PIPE, stderr=subprocess.DEVNULL, check=True, preexec_fn=limit).stdout
