@@ -1,6 +1,6 @@
 -- A finished job, by which way it ended. Assumes nothing.
 use mathlib.Core.Path.{_≡_, refl, sym, ap, subst, _∙_}
-use mathlib.Core.Bool.{true, false}
+use mathlib.Core.Bool.{Bool, true, false}
 use mathlib.Core.List.{List}
 use Prim.Native.Nat.{ℕ}
 use Rattle.csl.specs.Lent.{Buffers, lengths, needed, isShort}
@@ -9,8 +9,8 @@ use Rattle.csl.specs.Finished.{Answer, refusedWith, acceptedWith, Finished, Fin
 use Rattle.csl.specs.Laws.Refusal.{refused-by-texts, refused-by-lengths, accepted-by-all}
 use Rattle.bounds.specs.Found.{found, reportLower, reportUpper, job-reported}
 use Rattle.results.specs.Report.{report-filled}
-use Rattle.refusals.specs.Tested.{testedOf}
-use Rattle.refusals.specs.Kept.{held, refused-is, passed-is, short-is}
+use Rattle.refusals.specs.Tested.{testedOf, Limited}
+use Rattle.refusals.specs.Kept.{held, refused-is, passed-is, passed-limited, short-is}
 use Rattle.refusals.specs.declared.Accepted.{Accepted}
 use Rattle.refusals.specs.declared.Tested.{Tested}
 use Rattle.refusals.specs.declared.Tested.the-variants.{Passed, Refused}
@@ -29,7 +29,8 @@ module _ (j : Job) (before : Buffers (List ℕ)) where
     pub too-short : isShort (lengths before) (needed (a .states) (a .moves) (a .nodes)) ≡ true → Finished j before (refusedWith 15) before
     unfolding FinishedBy
     too-short s =
-        by (refusedWith 15) before (refused-by-lengths j (lengths before) (passed-is j a h) (sym (short-is j a h (lengths before)) ∙ s)) (record { answer = refl; untouched = refl })
+        by (refusedWith 15) before (refused-by-lengths j (lengths before) (passed-is j a h) (sym (short-is j a h (lengths before)) ∙ s))
+        (record { answer = refl; untouched = refl })
 
     pub accepted : isShort (lengths before) (needed (a .states) (a .moves) (a .nodes)) ≡ false → {after : Buffers (List ℕ)} {d : ℕ} → Filled j before after d
         → Finished j before (acceptedWith d) after
@@ -44,3 +45,24 @@ module _ (j : Job) (before : Buffers (List ℕ)) where
           reported = job-reported j (held j (passed-is j a h) .passed .loads);
           buffers = report-filled (f .each);
         })
+
+-- by what the tests and the lengths answered
+module _ (j : Job) {t : Tested} (e : t ≡ testedOf j) where
+  pub is-refused : (before : Buffers (List ℕ)) (k : ℕ) → t ≡ Refused k → Finished j before (refusedWith k) before
+  is-refused before k h = turned-back j before k (sym e ∙ h)
+
+  module _ (a : Accepted) (h : t ≡ Passed a) where
+    pub may-measure : Limited a
+    may-measure = passed-limited j a (sym e ∙ h)
+
+    module _ (before : Buffers (List ℕ)) {b : Bool} (s : b ≡ isShort (lengths before) (needed (a .states) (a .moves) (a .nodes))) where
+      pub is-too-short : b ≡ true → Finished j before (refusedWith 15) before
+      is-too-short g = too-short j before a (sym e ∙ h) (sym s ∙ g)
+
+      pub is-reported : b ≡ false → {after : Buffers (List ℕ)} {d : ℕ} → Filled j before after d → Finished j before (acceptedWith d) after
+      is-reported g f = accepted j before a (sym e ∙ h) (sym s ∙ g) f
+
+pub texts-passed : (j : Job) (a : Accepted) {t : Tested} → t ≡ testedOf j → t ≡ Passed a → testedOf j ≡ Passed a
+texts-passed j a e h = sym e ∙ h
+
+pub ruleset check-laws = (may-measure, is-refused, is-too-short, is-reported)

@@ -4,7 +4,7 @@ use mathlib.Core.List.{List}
 use Prim.Native.Nat.{ℕ, _+_, _-_, _*_, _≤_, _<_}
 use native.Mathlib.Omega.{arith}
 use native.Mathlib.Nat.{mul-le-mul-right, mul-le-mul}
-use lib.ListN.{length, take, drop, replicate, length-replicate}
+use lib.ListN.{length, take, drop, replicate}
 use lib.Seq.{length-take-le}
 use Rattle.csl.specs.Text.{Text}
 use Rattle.csl.specs.Limits.{mostLevels}
@@ -25,7 +25,6 @@ use Rattle.store.specs.declared.Store.{Store}
 use Rattle.formula.specs.Listed.{stored, storeOf}
 use Rattle.formula.specs.Shows.{nodes-some}
 use Rattle.formula.specs.Stored.{shown-stored}
-use Rattle.results.specs.Column.{written-length}
 use Rattle.refusals.specs.Tested.{acceptedOf}
 use Rattle.refusals.specs.Kept.{Held, held, passed-is, accepted-is}
 use Rattle.refusals.specs.declared.Accepted.{Accepted}
@@ -80,6 +79,12 @@ module _ {j : Job} {a : Accepted} {before : Buffers (List ℕ)} (r : ReportAsked
 
   pub line-ends : a .first < length (j .labels)
   line-ends = omega (arith, first-are, kept .line-ends)
+
+  pub word-inside : 5 ≤ length (j .labels)
+  word-inside = omega (arith, word-before, line-ends)
+
+  pub line-inside : a .first ≤ length (j .labels)
+  line-inside = omega (arith, line-ends)
 
   pub levels-fit : levels (jobFormula j) ≤ a .nodes
   levels-fit = omega (arith, nodes-are, levels-nodes (jobFormula j))
@@ -200,17 +205,6 @@ module _ {j : Job} {a : Accepted} {before : Buffers (List ℕ)} (r : ReportAsked
         marks-cleared =
             cleared-beyond (a .nodes * a .states) marks' (before .marks) (decided .same) (λ k h. decided .beyond k (past-levels k h)) m
 
-        pub words-kept : length words' ≡ length (before .moves)
-        words-kept =
-            ap length words-cleared
-            ∙ written-length (replicate (a .moves) 0) (before .moves) (omega (arith, length-replicate {A = ℕ} (a .moves) 0, room .moves))
-
-        pub vectors-kept : length vectors'' ≡ length (before .vectors)
-        vectors-kept =
-            ap length vectors-cleared
-            ∙ written-length (replicate (10 * a .states + 512) 0) (before .vectors)
-            (omega (arith, length-replicate {A = ℕ} (10 * a .states + 512) 0, room .vectors))
-
         pub filled : Filled j before (buffers lower upper verdicts words' vectors'' marks'') depth
         filled =
             record {
@@ -231,3 +225,5 @@ module _ {j : Job} {a : Accepted} {before : Buffers (List ℕ)} (r : ReportAsked
                         ∙ ap (λ (n : ℕ). written (replicate (nodes (jobFormula j) * n) 0) (before .marks)) states-are;
                   };
             }
+
+pub ruleset report-laws = (some-node, word-before, word-inside, line-inside, prepare-asked, words-long, part-long)

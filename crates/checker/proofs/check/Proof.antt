@@ -1,6 +1,5 @@
 use mathlib.Core.Path.{sym, _∙_}
-use Rattle.refusals.specs.Kept.{passed-limited}
-use Rattle.checker.proofs.CheckLaw.{turned-back, too-short, accepted}
+use Rattle.checker.proofs.CheckLaw.{texts-passed, check-laws}
 use borrow.Author.Needs.{needs}
 use Rattle.checker.proofs.check.Statement.{statement}
 use Rattle.checker.proofs.check.Tie as tie
@@ -15,16 +14,20 @@ enum-known-accepted : tie.Need-enum-known-accepted
 enum-known-accepted c = search needs
 
 too-short-requires : tie.Need-too-short-requires
-too-short-requires c κs = passed-limited _ _ (sym (c .before .before .before .test .ensures) ∙ (c .before .accepted .given .1))
+too-short-requires c κs = search (needs, check-laws)
 
 returns : tie.Need-returns
-returns c = too-short _ _ _ (sym (c .before .before .before .before .before .test .ensures) ∙ (c .before .before .before .accepted .given .1)) (sym (c .before .too-short .ensures) ∙ (c .if1 .taken))
+returns c = search (needs, check-laws)
 
 report-requires : tie.Need-report-requires
-report-requires c κs = record { passed = (sym (c .before .before .before .before .before .before .before .before .before .before .before .test .ensures) ∙ (c .before .before .before .before .before .before .before .before .before .accepted .given .1)); room = sym (c .before .before .before .before .before .before .before .too-short .ensures) ∙ (c .before .before .before .before .before .before .if1 .left) }
+report-requires c κs =
+    record {
+      passed = search (needs, texts-passed);
+      room = sym (c .before .before .before .before .before .before .before .too-short .ensures) ∙ c .before .before .before .before .before .before .if1 .left;
+    }
 
 returns-2 : tie.Need-returns-2
-returns-2 c = turned-back _ _ _ (sym (c .before .before .before .test .ensures) ∙ (c .before .number .given .1))
+returns-2 c = search (needs, check-laws)
 
 same-length : tie.Need-same-length
 same-length c = search needs
@@ -45,7 +48,7 @@ same-length-6 : tie.Need-same-length-6
 same-length-6 c = search needs
 
 returns-3 : tie.Need-returns-3
-returns-3 c = accepted _ _ _ (sym (c .before .before .before .before .before .before .before .before .before .before .before .before .before .before .before .before .before .before .before .before .before .before .before .before .test .ensures) ∙ (c .before .before .before .before .before .before .before .before .before .before .before .before .before .before .before .before .before .before .before .before .before .before .accepted .given .1)) (sym (c .before .before .before .before .before .before .before .before .before .before .before .before .before .before .before .before .before .before .before .before .too-short .ensures) ∙ (c .before .before .before .before .before .before .before .before .before .before .before .before .before .before .before .before .before .before .before .if1 .left)) (c .before .before .before .before .before .before .before .before .before .before .before .before .report .ensures)
+returns-3 c = search (needs, check-laws)
 
 pub check-spec : {M : Type 1} → statement M
 check-spec =
