@@ -4,6 +4,8 @@ use mathlib.Core.Bool.{true, _&&_, and-eq-true-iff}
 use mathlib.Core.List.{List}
 use Prim.Native.Nat.{ℕ, _+_, _*_, _≤_}
 use native.Mathlib.Omega.{arith}
+use mir.Syntax.{w64}
+use mir.Val.{Fits}
 use lib.ListN.{getD}
 use lib.Dec.{leb}
 use borrow.Author.Tests.{leb-true}
@@ -92,12 +94,18 @@ module _ {l marks : List ℕ} {nodes : List Node} {root n q : ℕ} (a : Conclude
     pub ends-in : EndsIn n l
     ends-in = ends-here .2
 
-    pub load-fits : q * t ≤ mostRateHours
+    load-fits : q * t ≤ mostRateHours
     unfolding untilsPass
     load-fits =
         let i = and-eq-true-iff (leb (q * t) mostRateHours && untilsPass (λ u v. leb (q * v) mostRateHours) (is .g)) (untilsPass (λ u v. leb (q * v) mostRateHours) (is .h)) .0
         (subst (λ z. untilsPass (λ u v. leb (q * v) mostRateHours) z ≡ true) (is .is) (a .loads)) in
         leb-true (q * t) mostRateHours (and-eq-true-iff (leb (q * t) mostRateHours) (untilsPass (λ u v. leb (q * v) mostRateHours) (is .g)) .0 (i .0) .0)
+
+    pub product-fits : Fits w64 (q * t)
+    product-fits = record { fits = omega (arith, load-fits) }
+
+    pub loaded : until.Loaded (q * t)
+    loaded = record { most = omega (arith, load-fits) }
 
     pub until-concluded : {lower₀ lower upper₀ upper verdicts₀ verdicts : List ℕ} {d : ℕ}
         → verdicts ≡ written (column (λ s. verdictByte (verdictAt (getD marks s 0))) n) verdicts₀
