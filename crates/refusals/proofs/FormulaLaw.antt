@@ -1,12 +1,12 @@
 -- Tests 10 to 14, by what the survey told of the text and by the store of its formula. Assumes nothing.
-use mathlib.Core.Path.{_≡_, refl}
+use mathlib.Core.Path.{_≡_, refl, sym, _∙_}
 use Prim.Native.Nat.{ℕ}
-use mathlib.Core.Bool.{true, false, not, _||_, true≢false, false≢true}
+use mathlib.Core.Bool.{Bool, true, false, not, _||_, true≢false, false≢true}
 use mathlib.Core.List.{List, [], _∷_}
 use mathlib.Core.Option.{Option, none, some}
 use lib.ListN.{length}
 use lib.Dec.{ltb}
-use borrow.Author.Tests.{le-leb, ltb-false}
+use borrow.Author.Tests.{le-leb, ltb-false, not-true, not-false}
 use Rattle.csl.specs.Text.{Text}
 use Rattle.csl.specs.Formula.{Formula, nodes, levels}
 use Rattle.csl.specs.Refusal.{formulaFrom, isMissing, test, firstOf}
@@ -23,18 +23,21 @@ use Rattle.refusals.specs.declared.FormulaTested.{FormulaTested}
 use Rattle.refusals.specs.declared.FormulaTested.the-variants.{Nodes, Wrong}
 
 module _ (names : List Text) (q : ℕ) (o : Option Formula) (e : Extent) (is : e ≡ extentOf o) where
-  pub at-10 : e .readable ≡ false → Wrong 10 ≡ formulaTestedOf names q o
+  pub at-10 : not (e .readable) ≡ true → Wrong 10 ≡ formulaTestedOf names q o
   unfolding formulaTestedOf testsOn firstOf isMissing
-  at-10 h = go o (rw is at h)
+  at-10 h = go o (rw is at (not-true (e .readable) h))
     where
       go : (p : Option Formula) → extentOf p .readable ≡ false → Wrong 10 ≡ formulaTestedOf names q p
       go none k = refl
       go (some f) k = absurd (true≢false k)
 
-  module _ (r : e .readable ≡ true) where
+  module _ (r : not (e .readable) ≡ false) where
+    readable : e .readable ≡ true
+    readable = not-false _ r
+
     pub at-11 : (ltb 64 (e .nodes) || ltb 16 (e .levels)) ≡ true → Wrong 11 ≡ formulaTestedOf names q o
     unfolding formulaTestedOf testsOn firstOf isMissing formulaFrom
-    at-11 h = go o (rw is at r) (rw is at h)
+    at-11 h = go o (rw is at readable) (rw is at h)
       where
         go : (p : Option Formula) → extentOf p .readable ≡ true → (ltb 64 (extentOf p .nodes) || ltb 16 (extentOf p .levels)) ≡ true
             → Wrong 11 ≡ formulaTestedOf names q p
@@ -63,28 +66,34 @@ module _ (names : List Text) (q : ℕ) (o : Option Formula) (e : Extent) (is : e
           )
 
       by-store : answered st (e .nodes) ≡ formulaTestedOf names q o
-      by-store = rw (built, is) (go o (rw is at r) (rw is at s))
+      by-store = rw (built, is) (go o (rw is at readable) (rw is at s))
         where
           go : (p : Option Formula) → extentOf p .readable ≡ true → (ltb 64 (extentOf p .nodes) || ltb 16 (extentOf p .levels)) ≡ false
               → answered (storeOf names p) (extentOf p .nodes) ≡ formulaTestedOf names q p
           go none k l = absurd (false≢true k)
           go (some f) k l = of-formula f l
 
-      module _ (count : ℕ) (all : count ≡ length names) where
-        pub at-12 : allPassed (Labels count) st ≡ false → Wrong 12 ≡ formulaTestedOf names q o
+      module _ (count : ℕ) (all : count ≡ length names) {l : Bool} (labels : l ≡ allPassed (Labels count) st) where
+        pub at-12 : not l ≡ true → Wrong 12 ≡ formulaTestedOf names q o
         unfolding firstOf
-        at-12 h = rw (rw all at h) at by-store
+        at-12 h = rw (rw all at (sym labels ∙ not-true _ h)) at by-store
 
-        module _ (t : allPassed (Labels count) st ≡ true) where
-          pub at-13 : allPassed Limits st ≡ false → Wrong 13 ≡ formulaTestedOf names q o
+        module _ (t : not l ≡ false) {m : Bool} (limits : m ≡ allPassed Limits st) where
+          labels-pass : allPassed (Labels (length names)) st ≡ true
+          labels-pass = rw all at (sym labels ∙ not-false _ t)
+
+          pub at-13 : not m ≡ true → Wrong 13 ≡ formulaTestedOf names q o
           unfolding firstOf
-          at-13 h = rw (rw all at t, h) at by-store
+          at-13 h = rw (labels-pass, sym limits ∙ not-true _ h) at by-store
 
-          module _ (u : allPassed Limits st ≡ true) where
-            pub at-14 : allPassed (Load q) st ≡ false → Wrong 14 ≡ formulaTestedOf names q o
-            unfolding firstOf
-            at-14 h = rw (rw all at t, u, h) at by-store
+          module _ (u : not m ≡ false) {k : Bool} (load : k ≡ allPassed (Load q) st) where
+            limits-pass : allPassed Limits st ≡ true
+            limits-pass = sym limits ∙ not-false _ u
 
-            pub at-end : allPassed (Load q) st ≡ true → Nodes (e .nodes) ≡ formulaTestedOf names q o
+            pub at-14 : not k ≡ true → Wrong 14 ≡ formulaTestedOf names q o
             unfolding firstOf
-            at-end h = rw (rw all at t, u, h) at by-store
+            at-14 h = rw (labels-pass, limits-pass, sym load ∙ not-true _ h) at by-store
+
+            pub at-end : not k ≡ false → Nodes (e .nodes) ≡ formulaTestedOf names q o
+            unfolding firstOf
+            at-end h = rw (labels-pass, limits-pass, sym load ∙ not-false _ h) at by-store
