@@ -10,13 +10,16 @@ use lib.Dec.{ltb, eqb}
 use Rattle.csl.specs.Line.{lineFeed, laterLines}
 use Rattle.csl.specs.Labels.{namesOf, labelsHead, labelsLayout, inTurn, statesOf}
 use Rattle.csl.specs.Moves.{movesHead, movesLayout, movesOf, isRising}
-use Rattle.csl.specs.Refusal.{Job, Test, test, firstOf, badLength, outOfBytes, brokenLayout, wrongFirstLine, wrongStates, manyMoves, strangeState, ownState, notRising, wrongRate}
+use Rattle.csl.specs.Refusal.{Job, Test, test, firstOf}
+use Rattle.csl.specs.Refusal.{badLength, outOfBytes, brokenLayout, wrongFirstLine, wrongStates, manyMoves, strangeState, ownState, notRising, wrongRate}
 use Rattle.csl.specs.Laws.Refusal.{neither}
 use Rattle.texts.specs.Span.{spanOf}
 use Rattle.moves.specs.Facts as m
 use Rattle.labels.specs.Facts as l
 use Rattle.labels.specs.declared.Facts as labels
+use Rattle.moves.specs.declared.Facts as moves
 use Rattle.sheet.specs.Checked.{answer, sheetOf, sheetTests, checkedOf, judged, judgedTests}
+use Rattle.sheet.specs.declared.Checked.{Checked}
 use Rattle.sheet.specs.declared.Checked.the-variants.{Refused}
 
 -- condition 9 is put to rising moves only
@@ -44,26 +47,6 @@ later j =
     ∷ test 8 (notRising j) ∷ test 9 (wrongRate j) ∷ []
 
 module _ (j : Job) where
-  module _ (p : badLength 61440 (j .moves) ≡ true) where
-    pub first-wrong : Refused 1 ≡ checkedOf j
-    unfolding checkedOf sheetTests firstOf outOfBytes
-    first-wrong = rw p
-
-  module _ (p : badLength 61440 (j .moves) ≡ false) where
-    pub second-wrong : badLength 61440 (j .labels) ≡ true → Refused 1 ≡ checkedOf j
-    unfolding checkedOf sheetTests firstOf outOfBytes
-    second-wrong q = rw (p, q)
-
-    module _ (q : badLength 61440 (j .labels) ≡ false) where
-      pub third-wrong : badLength 512 (j .formula) ≡ true → Refused 1 ≡ checkedOf j
-      unfolding checkedOf sheetTests firstOf outOfBytes
-      third-wrong r = rw (p, q, r)
-
-      bytes-right : badLength 512 (j .formula) ≡ false
-          → checkedOf j ≡ answer (sheetOf j) (cond (not (movesLayout (j .moves) && labelsLayout (j .labels))) (some 2) (firstOf (later j)))
-      unfolding checkedOf sheetTests firstOf outOfBytes brokenLayout
-      bytes-right r = rw (p, q, r)
-
   facts-judged : (x y : Bool)
       → judged (cond x (m.factsIn (cond y (right j) l.broken .states) (movesHead (j .moves)) (movesOf (j .moves))) m.broken) (cond y (right j) l.broken)
       ≡ answer (sheetOf j) (cond (not (x && y)) (some 2) (firstOf (later j)))
@@ -73,11 +56,33 @@ module _ (j : Job) where
   facts-judged false true = refl
   facts-judged false false = refl
 
-  pub checked-is : badLength 61440 (j .moves) ≡ false → badLength 61440 (j .labels) ≡ false → badLength 512 (j .formula) ≡ false
-      → judged (m.factsOf (l.factsOf (j .labels) .states) (j .moves)) (l.factsOf (j .labels)) ≡ checkedOf j
-  unfolding m.factsOf l.factsOf
-  checked-is p q r = facts-judged (movesLayout (j .moves)) (labelsLayout (j .labels)) ∙ sym (bytes-right p q r)
+  -- what the tests of the three lengths answered
+  module _ {x : Bool} (by-moves : x ≡ badLength 61440 (j .moves)) where
+    pub first-wrong : x ≡ true → Refused 1 ≡ checkedOf j
+    unfolding checkedOf sheetTests firstOf outOfBytes
+    first-wrong p = rw (sym by-moves ∙ p)
+
+    module _ (p : x ≡ false) {y : Bool} (by-labels : y ≡ badLength 61440 (j .labels)) where
+      pub second-wrong : y ≡ true → Refused 1 ≡ checkedOf j
+      unfolding checkedOf sheetTests firstOf outOfBytes
+      second-wrong q = rw (sym by-moves ∙ p, sym by-labels ∙ q)
+
+      module _ (q : y ≡ false) {z : Bool} (by-formula : z ≡ badLength 512 (j .formula)) where
+        pub third-wrong : z ≡ true → Refused 1 ≡ checkedOf j
+        unfolding checkedOf sheetTests firstOf outOfBytes
+        third-wrong r = rw (sym by-moves ∙ p, sym by-labels ∙ q, sym by-formula ∙ r)
+
+        module _ (r : z ≡ false) where
+          bytes-right : checkedOf j ≡ answer (sheetOf j) (cond (not (movesLayout (j .moves) && labelsLayout (j .labels))) (some 2) (firstOf (later j)))
+          unfolding checkedOf sheetTests firstOf outOfBytes brokenLayout
+          bytes-right = rw (sym by-moves ∙ p, sym by-labels ∙ q, sym by-formula ∙ r)
+
+          pub checked-is : {a : moves.Facts} {b : labels.Facts} {c : Checked} → b ≡ l.factsOf (j .labels) → a ≡ m.factsOf (b .states) (j .moves)
+              → c ≡ judged a b → c ≡ checkedOf j
+          unfolding m.factsOf l.factsOf
+          checked-is e d h =
+              h ∙ rw (d, e) (facts-judged (movesLayout (j .moves)) (labelsLayout (j .labels)) ∙ sym bytes-right)
 
 -- a text within its byte limit
-pub within : (n : ℕ) → (eqb n 0 || ltb 61440 n) ≡ false → n ≤ 61440
-within n h = ltb-false 61440 n (neither (eqb n 0) (ltb 61440 n) h .1)
+pub within : (n : ℕ) {x : Bool} → x ≡ (eqb n 0 || ltb 61440 n) → x ≡ false → n ≤ 61440
+within n e h = ltb-false 61440 n (neither (eqb n 0) (ltb 61440 n) (sym e ∙ h) .1)

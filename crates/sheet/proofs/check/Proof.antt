@@ -1,4 +1,3 @@
-use mathlib.Core.Path.{sym, _∙_}
 use Rattle.sheet.proofs.CheckLaw.{first-wrong, second-wrong, third-wrong, checked-is, within}
 use borrow.Author.Needs.{needs}
 use Rattle.sheet.proofs.check.Statement.{statement}
@@ -8,37 +7,33 @@ bad-length-requires : tie.Need-bad-length-requires
 bad-length-requires c κs = search needs
 
 returns : tie.Need-returns
-returns c = first-wrong _ (sym (c .before .bad-length .ensures) ∙ c .if1 .taken)
+returns c = search first-wrong
 
 bad-length-requires-2 : tie.Need-bad-length-requires-2
 bad-length-requires-2 c κs = search needs
 
 returns-2 : tie.Need-returns-2
-returns-2 c = second-wrong _ (sym (c .before .before .before .bad-length .ensures) ∙ c .before .before .if1 .left) (sym (c .before .bad-length2 .ensures) ∙ c .if2 .taken)
+returns-2 c = search second-wrong
 
 bad-length-requires-3 : tie.Need-bad-length-requires-3
 bad-length-requires-3 c κs = search needs
 
 returns-3 : tie.Need-returns-3
-returns-3 c =
-    third-wrong _ (sym (c .before .before .before .before .before .bad-length .ensures) ∙ c .before .before .before .before .if1 .left) (sym (c .before .before .before .bad-length2 .ensures) ∙ c .before .before .if2 .left)
-    (sym (c .before .bad-length3 .ensures) ∙ c .if3 .taken)
+returns-3 c = search third-wrong
 
 read-requires : tie.Need-read-requires
 read-requires c κs = search needs
 
 read-requires-2 : tie.Need-read-requires-2
-read-requires-2 c κs = within _ (sym (c .before .before .before .before .before .before .bad-length .ensures) ∙ c .before .before .before .before .before .if1 .left)
+read-requires-2 c κs =
+    let kept = c .before .before .before .before .before in
+    within _ (kept .before .bad-length .ensures) (kept .if1 .left)
 
 judge-requires : tie.Need-judge-requires
 judge-requires c κs = search needs
 
 returns-4 : tie.Need-returns-4
-returns-4 c =
-    c .judge .ensures
-    ∙ rw (c .before .read2 .ensures, c .before .before .read .ensures)
-    (checked-is _ (sym (c .before .before .before .before .before .before .before .before .bad-length .ensures) ∙ c .before .before .before .before .before .before .before .if1 .left) (sym (c .before .before .before .before .before .before .bad-length2 .ensures) ∙ c .before .before .before .before .before .if2 .left)
-    (sym (c .before .before .before .before .bad-length3 .ensures) ∙ c .before .before .before .if3 .left))
+returns-4 c = search checked-is
 
 pub check-spec : {M : Type 1} → statement M
 check-spec =
