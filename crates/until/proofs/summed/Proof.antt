@@ -20,7 +20,13 @@ run-requires c κs = search (needs, summed-laws)
 
 ends-requires : tie.Need-ends-requires
 ends-requires c κs =
-    may-end (c .before .before .before .before .before .before .before .before .before .before .before .before .before .before .before .before .before .before .before .before .pre) (c .before .before .before .before .before .before .before .before .before .before .before .before .before .weigh .ensures) (c .before .before .before .before .before .before .before .before .before .last-weighed .ensures) (c .before .before .before .before .before .before .before .begin .ensures) (c .before .before .before .before .before .before .before .before .before .before .before .before .before .before .before .new .ensures) (c .before .before .before .run .ensures)
+    let run = c .before .before .before in
+    let begun = run .before .before .before .before in
+    let looked = begun .before .before in
+    let weighed = looked .before .before .before .before in
+    let divisor = weighed .before .before in
+    let entry = divisor .before .before .before .before .before in
+    may-end (entry .pre) (weighed .weigh .ensures) (looked .last-weighed .ensures) (begun .begin .ensures) (divisor .new .ensures) (run .run .ensures)
 
 same-length : tie.Need-same-length
 same-length c = search needs
