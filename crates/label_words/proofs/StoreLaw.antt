@@ -1,34 +1,36 @@
 -- The words of a labels text, stored line by line. Assumes nothing.
 use mathlib.Core.Path.{_≡_, refl, sym, ap, _∙_}
-use Prim.Native.Nat.{ℕ, zero, suc, _+_, _*_, _-_, _≤_, _<_}
+use Prim.Native.Nat.{ℕ, zero, suc, _+_, _*_, _-_, _^_, _≤_, _<_}
 use native.Mathlib.Omega.{arith}
 use native.Mathlib.Numerals.{add-one}
 use mathlib.Core.Bool.{Bool, true, false, _&&_, true≢false, and-eq-true-iff}
 use mathlib.Core.List.{List, [], _∷_, headD, tail}
-use lib.ListN.{length, drop, getD, set}
+use lib.ListN.{length, take, drop, getD, set, length-drop}
 use lib.Dec.{eqb}
 use borrow.Author.Tests.{eqb-true}
+use mir.Val.{Fits}
+use mir.Syntax.{w64}
 use Rattle.csl.specs.Text.{Text, every}
 use Rattle.csl.specs.Limits.{sheetDigits}
 use Rattle.csl.specs.Number.{isNumber}
 use Rattle.csl.specs.Line.{lineFeed, comma, linesOf, laterLines, firstLine, isEnded, fieldsOf}
 use Rattle.csl.specs.Labels.{stateLine, labelsLayout, namesOf, statesOf, isMark}
 use Rattle.texts.specs.Span.{spanOf}
-use Rattle.texts.specs.Cut.{ended-cut, later-cut, later-none}
+use Rattle.texts.specs.Cut.{rest-is, ended-cut, later-cut, later-none}
 use Rattle.texts.specs.declared.Num.{Num}
 use Rattle.texts.specs.declared.Num.the-variants.{Value, Bad}
 use Rattle.fields.specs.LineAt.{lineAt, isEndedAt, fieldsAt, fields-some}
 use Rattle.fields.specs.Lines.{linesPass, nextLine, lines-are, lines-end, pass-more, pass-not}
 use Rattle.fields.specs.Places.{drop-here, drop-none}
 use Rattle.numbers.specs.Table.{Table, table-none, table-more, table-done}
-use Rattle.labels.specs.Row.{rowAt}
+use Rattle.labels.specs.Row.{rowAt, RowFits}
 use Rattle.labels.proofs.RowsLaw.{Told, told, untold}
 use Rattle.label_words.specs.Left.{marksLeft, fieldsLeft}
 use Rattle.label_words.specs.Words.{marksWord, wordOf}
 use Rattle.labels.proofs.RowLaw.{row-bare, row-tail}
 
 -- the marks of a line that was read, behind its number
-pub line-marks : (names : ℕ) (t : Text) (v u : ℕ) → rowAt names t ≡ Value v u → marksLeft names (drop (u - 2 * names) t) ≡ true
+line-marks : (names : ℕ) (t : Text) (v u : ℕ) → rowAt names t ≡ Value v u → marksLeft names (drop (u - 2 * names) t) ≡ true
 unfolding marksLeft
 line-marks zero t v u h = refl
 line-marks (suc k) t v u h = row-tail k t v u h .0
@@ -50,12 +52,12 @@ unfolding namesOf
 fields-names labels = ap length (fields-some (firstLine labels))
 
 module _ (s : Text) (names : ℕ) (w₀ : List ℕ) where
-  pub start : (end : ℕ) → labelsLayout s ≡ true → names ≡ length (namesOf s) → end ≡ spanOf lineFeed s → end < length s
-      → Storing s names w₀ w₀ (drop (end + 1) s) 0
+  pub start : {end : ℕ} → labelsLayout s ≡ true → names ≡ length (namesOf s) → end ≡ spanOf lineFeed s → end < length s
+      → Storing s names w₀ w₀ (take (length s - (end + 1)) (drop (end + 1) s)) 0
   unfolding labelsLayout linesPass statesOf
-  start end y n e h =
+  start y n e h =
       let l : spanOf lineFeed s < length s = omega arith in
-      rw (e, n)
+      rw (rest-is, e, n)
       record {
         left = later-cut s l;
         passes = rw (ended-cut s l, later-cut s l, fields-names s) at y;
@@ -68,33 +70,63 @@ module _ (s : Text) (names : ℕ) (w₀ : List ℕ) where
   unfolding statesOf
   start-none h = rw (later-none s h) (table-none (wordOf s) w₀)
 
-  module _ (w : List ℕ) (t : Text) (j : ℕ) (v : Storing s names w₀ w t j) where
-    pub never-bad : 0 < length t → rowAt names t ≡ Bad → ⊥
-    never-bad l h = true≢false (sym (v .passes) ∙ pass-not (stateLine (suc names)) t l (untold names t h))
+-- a row that was read
+module _ {r : Num} {x u : ℕ} (h : r ≡ Value x u) (names : ℕ) (t : Text) where
+  pub marks-ahead : r ≡ rowAt names t → marksLeft names (take (length t - (u - 2 * names)) (drop (u - 2 * names) t)) ≡ true
+  marks-ahead g = rw rest-is (line-marks names t x u (sym g ∙ h))
 
-    module _ (x u : ℕ) (h : rowAt names t ≡ Value x u) where
+  module _ (f : RowFits names (length t) r) where
+    pub number-ends : 2 * names ≤ u
+    number-ends = let k = rw h at f in omega arith
+
+    pub row-ends : u ≤ length t
+    row-ends = let k = rw h at f in omega arith
+
+    pub marks-begin : u - 2 * names ≤ length t
+    marks-begin = omega (arith, row-ends)
+
+    pub falls : length (take (length t - u) (drop u t)) < length t
+    falls = let k = rw h at f in rw rest-is (omega (arith, length-drop u t))
+
+module _ {s : Text} {names : ℕ} {w₀ w : List ℕ} {t : Text} {j : ℕ} (v : Storing s names w₀ w t j) where
+  pub done : length t ≤ 0 → Table (wordOf s) w₀ w (statesOf s)
+  unfolding statesOf
+  done h = table-done (v .table) (v .place) (drop-none (laterLines s) j (v .left ∙ lines-end t h))
+
+  pub sized : length w ≡ length w₀
+  sized = v .table .same
+
+  module _ {r : Num} (g : r ≡ rowAt names t) where
+    pub never-bad : 0 < length t → r ≡ Bad → ⊥
+    never-bad l h = true≢false (sym (v .passes) ∙ pass-not (stateLine (suc names)) t l (untold names t (sym g ∙ h)))
+
+    module _ {x u : ℕ} (h : r ≡ Value x u) (l : statesOf s ≤ length w₀) where
+      is : rowAt names t ≡ Value x u
+      is = sym g ∙ h
+
       here : (j < length (laterLines s)) × (getD (laterLines s) j [] ≡ lineAt t) × (drop (suc j) (laterLines s) ≡ linesOf (nextLine t))
-      here = drop-here (laterLines s) j [] (lineAt t) (linesOf (nextLine t)) (v .left ∙ lines-are t (told names t x u h .ended))
+      here = drop-here (laterLines s) j [] (lineAt t) (linesOf (nextLine t)) (v .left ∙ lines-are t (told names t x u is .ended))
 
-      pub room : statesOf s ≤ length w₀ → j < length w
+      pub room : j < length w
       unfolding statesOf
-      room l = omega (arith, here .0, v .table .same)
+      room = omega (arith, l, here .0, v .table .same)
 
-      pub turn : statesOf s ≤ length w₀ → (n : ℕ) → n ≡ marksWord (fieldsLeft names (drop (u - 2 * names) t)) → Storing s names w₀ (set w j n) (drop u t) (j + 1)
+      pub offset-fits : length w₀ * 8 < 2 ^ 63 → Fits w64 (j * 8)
+      offset-fits b = omega (arith, room, sized)
+
+      pub next-fits : length w₀ < 2 ^ 64 → Fits w64 (j + 1)
+      next-fits b = omega (arith, room, sized)
+
+      pub turn : {n : ℕ} → n ≡ marksWord (fieldsLeft names (take (length t - (u - 2 * names)) (drop (u - 2 * names) t)))
+          → Storing s names w₀ (set w j n) (take (length t - u) (drop u t)) (j + 1)
       unfolding statesOf wordOf
-      turn l n q =
-          let y = told names t x u h in
-          let e : n ≡ wordOf s j = q ∙ rw (line-fields names t x u h, here .1) in
+      turn {n} q =
+          let y = told names t x u is in
+          let e : n ≡ wordOf s j = (rw rest-is at q) ∙ rw (line-fields names t x u is, here .1) in
+          rw rest-is
           record {
             left = rw (add-one j, here .2, y .its-bytes);
             passes = sym (rw (y .its-bytes) at (pass-more (stateLine (suc names)) t (y .ended) (y .passes))) ∙ v .passes;
-            table = table-more n (v .table) (room l) e;
+            table = table-more n (v .table) room e;
             place = omega (arith, here .0);
           }
-
-    pub done : length t ≤ 0 → Table (wordOf s) w₀ w (statesOf s)
-    unfolding statesOf
-    done h = table-done (v .table) (v .place) (drop-none (laterLines s) j (v .left ∙ lines-end t h))
-
-    pub sized : length w ≡ length w₀
-    sized = v .table .same

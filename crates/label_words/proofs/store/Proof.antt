@@ -1,9 +1,8 @@
 use borrow.Author.Needs.{needs}
 use native.Mathlib.Omega.{arith}
-use mathlib.Core.Path.{sym, _∙_}
-use lib.ListN.{length, length-drop}
-use Rattle.texts.specs.Cut.{rest-is}
-use Rattle.label_words.proofs.StoreLaw.{Storing, start, start-none, line-marks, never-bad, room, turn, done, sized}
+use lib.ListN.{length}
+use Rattle.label_words.proofs.StoreLaw.{Storing, start, start-none, sized, done}
+use Rattle.label_words.proofs.StoreLaw.{never-bad, number-ends, row-ends, marks-begin, marks-ahead, room, offset-fits, next-fits, turn, falls}
 use Rattle.label_words.proofs.store.Statement.{statement}
 use Rattle.label_words.proofs.store.Tie as tie
 
@@ -32,7 +31,7 @@ part-t-end : tie.Need-part-t-end Inv-loop μ-loop
 part-t-end c = search needs
 
 loop-holds : tie.Need-loop-holds Inv-loop μ-loop
-loop-holds c = rw rest-is (start _ _ _ _ (c .before .before .before .before .before .pre .0) (c .before .before .before .before .before .pre .1) (c .before .before .span .ensures .0) (omega arith))
+loop-holds c = search start
 
 row-requires : tie.Need-row-requires Inv-loop μ-loop
 row-requires c κs = search needs
@@ -41,10 +40,10 @@ enum-told : tie.Need-enum-told Inv-loop μ-loop
 enum-told c = search needs
 
 same-length : tie.Need-same-length Inv-loop μ-loop
-same-length c = sized _ _ _ _ _ _ (c .before .before .before .before .loop .inv)
+same-length c = search sized
 
 returns-2 : tie.Need-returns-2 Inv-loop μ-loop
-returns-2 c = absurd (never-bad _ _ _ _ _ _ (c .before .before .before .before .loop .inv) (omega arith) (sym (c .before .before .row .ensures .0) ∙ c .enum-told .given .1))
+returns-2 c = search never-bad
 
 enum-known-used : tie.Need-enum-known-used Inv-loop μ-loop
 enum-known-used c = search needs
@@ -53,67 +52,49 @@ mul-at : tie.Need-mul-at Inv-loop μ-loop
 mul-at c = search needs
 
 sub-at : tie.Need-sub-at Inv-loop μ-loop
-sub-at c =
-    let h = rw (c .before .used .given .1) at (c .before .before .before .row .ensures .1) in
-    omega arith
+sub-at c = search number-ends
 
 sub-word : tie.Need-sub-word Inv-loop μ-loop
-sub-word c =
-    let h = rw (c .before .used .given .1) at (c .before .before .before .row .ensures .1) in
-    omega arith
+sub-word c = search marks-begin
 
 part-word-start : tie.Need-part-word-start Inv-loop μ-loop
-part-word-start c =
-    let h = rw (c .before .used .given .1) at (c .before .before .before .row .ensures .1) in
-    search needs
+part-word-start c = search marks-begin
 
 part-word-end : tie.Need-part-word-end Inv-loop μ-loop
 part-word-end c = search needs
 
 word-requires : tie.Need-word-requires Inv-loop μ-loop
-word-requires c κs = (c .before .before .before .before .before .before .before .before .before .before .before .before .pre .2, rw rest-is (line-marks _ _ _ _ (sym (c .before .before .before .before .row .ensures .0) ∙ c .before .before .used .given .1)))
+word-requires c κs = search marks-ahead
 
 mul-words : tie.Need-mul-words Inv-loop μ-loop
-mul-words c =
-    let l = room _ _ _ _ _ _ (c .before .before .before .before .before .before .before .loop .inv) _ _ (sym (c .before .before .before .before .before .row .ensures .0) ∙ c .before .before .before .used .given .1) (c .before .before .before .before .before .before .before .before .before .before .before .before .before .pre .3) in
-    omega (arith, sized _ _ _ _ _ _ (c .before .before .before .before .before .before .before .loop .inv))
+mul-words c = search offset-fits
 
 slice-write-words : tie.Need-slice-write-words Inv-loop μ-loop
-slice-write-words c = room _ _ _ _ _ _ (c .before .before .before .before .before .before .before .loop .inv) _ _ (sym (c .before .before .before .before .before .row .ensures .0) ∙ c .before .before .before .used .given .1) (c .before .before .before .before .before .before .before .before .before .before .before .before .before .pre .3)
+slice-write-words c = search room
 
 add-j : tie.Need-add-j Inv-loop μ-loop
-add-j c =
-    let l = room _ _ _ _ _ _ (c .before .before .before .before .before .before .before .loop .inv) _ _ (sym (c .before .before .before .before .before .row .ensures .0) ∙ c .before .before .before .used .given .1) (c .before .before .before .before .before .before .before .before .before .before .before .before .before .pre .3) in
-    omega (arith, sized _ _ _ _ _ _ (c .before .before .before .before .before .before .before .loop .inv))
+add-j c = search next-fits
 
 sub-t-2 : tie.Need-sub-t-2 Inv-loop μ-loop
-sub-t-2 c =
-    let h = rw (c .before .before .before .used .given .1) at (c .before .before .before .before .before .row .ensures .1) in
-    omega arith
+sub-t-2 c = search row-ends
 
 part-t-start-2 : tie.Need-part-t-start-2 Inv-loop μ-loop
-part-t-start-2 c =
-    let h = rw (c .before .before .before .used .given .1) at (c .before .before .before .before .before .row .ensures .1) in
-    search needs
+part-t-start-2 c = search row-ends
 
 part-t-end-2 : tie.Need-part-t-end-2 Inv-loop μ-loop
 part-t-end-2 c = search needs
 
 loop-less : tie.Need-loop-less Inv-loop μ-loop
-loop-less c =
-    let h = rw (c .before .before .before .before .used .given .1) at (c .before .before .before .before .before .before .row .ensures .1) in
-    rw rest-is (omega (arith, length-drop (c .before .before .before .before .used .given .0 .1 .0) (c .before .before .before .before .before .before .before .before .loop .t .now)))
+loop-less c = search falls
 
 loop-again : tie.Need-loop-again Inv-loop μ-loop
-loop-again c =
-    rw rest-is
-    (turn _ _ _ _ _ _ (c .before .before .before .before .before .before .before .before .loop .inv) _ _ (sym (c .before .before .before .before .before .before .row .ensures .0) ∙ c .before .before .before .before .used .given .1) (c .before .before .before .before .before .before .before .before .before .before .before .before .before .before .pre .3) _ (rw rest-is at (c .before .word .ensures)))
+loop-again c = search turn
 
 same-length-2 : tie.Need-same-length-2 Inv-loop μ-loop
-same-length-2 c = sized _ _ _ _ _ _ (c .before .loop .inv)
+same-length-2 c = search sized
 
 returns-3 : tie.Need-returns-3 Inv-loop μ-loop
-returns-3 c = done _ _ _ _ _ _ (c .before .loop .inv) (omega arith)
+returns-3 c = done (c .before .loop .inv) (omega arith)
 
 pub store-spec : {M : Type 1} → statement M
 store-spec =
