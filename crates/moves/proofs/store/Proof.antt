@@ -1,9 +1,8 @@
 use borrow.Author.Needs.{needs}
 use native.Mathlib.Omega.{arith}
-use mathlib.Core.Path.{sym, _∙_}
-use lib.ListN.{length, length-drop}
-use Rattle.texts.specs.Cut.{rest-is}
-use Rattle.moves.proofs.StoreLaw.{Storing, start, start-none, never-bad, room, turn, done, sized}
+use lib.ListN.{length}
+use Rattle.moves.proofs.StoreLaw.{Storing, start, start-none, sized, done}
+use Rattle.moves.proofs.StoreLaw.{never-bad, from-fits, to-fits, rate-fits, line-ends, room, offset-fits, next-fits, turn, falls}
 use Rattle.moves.proofs.store.Statement.{statement}
 use Rattle.moves.proofs.store.Tie as tie
 
@@ -32,7 +31,7 @@ part-t-end : tie.Need-part-t-end Inv-loop μ-loop
 part-t-end c = search needs
 
 loop-holds : tie.Need-loop-holds Inv-loop μ-loop
-loop-holds c = rw rest-is (start _ _ _ (c .before .before .before .before .before .pre .0) (c .before .before .span .ensures .0) (omega arith))
+loop-holds c = search start
 
 move-line-requires : tie.Need-move-line-requires Inv-loop μ-loop
 move-line-requires c κs = search needs
@@ -41,60 +40,46 @@ enum-told : tie.Need-enum-told Inv-loop μ-loop
 enum-told c = search needs
 
 same-length : tie.Need-same-length Inv-loop μ-loop
-same-length c = sized _ _ _ _ _ (c .before .before .before .before .loop .inv)
+same-length c = search sized
 
 returns-2 : tie.Need-returns-2 Inv-loop μ-loop
-returns-2 c = absurd (never-bad _ _ _ _ _ (c .before .before .before .before .loop .inv) (omega arith) (sym (c .before .before .move-line .ensures .0) ∙ c .enum-told .given .1))
+returns-2 c = search never-bad
 
 enum-known-from : tie.Need-enum-known-from Inv-loop μ-loop
 enum-known-from c = search needs
 
 pack-requires : tie.Need-pack-requires Inv-loop μ-loop
-pack-requires c κs =
-    let h = rw (c .before .from .given .1) at (c .before .before .before .move-line .ensures .1) in
-    (omega arith, omega arith, omega arith)
+pack-requires c κs = search (from-fits, to-fits, rate-fits)
 
 mul-words : tie.Need-mul-words Inv-loop μ-loop
-mul-words c =
-    let l = room _ _ _ _ _ (c .before .before .before .before .before .before .loop .inv) _ _ _ _ (sym (c .before .before .before .before .move-line .ensures .0) ∙ c .before .before .from .given .1) (c .before .before .before .before .before .before .before .before .before .before .before .before .pre .1) in
-    omega (arith, sized _ _ _ _ _ (c .before .before .before .before .before .before .loop .inv))
+mul-words c = search offset-fits
 
 slice-write-words : tie.Need-slice-write-words Inv-loop μ-loop
-slice-write-words c = room _ _ _ _ _ (c .before .before .before .before .before .before .loop .inv) _ _ _ _ (sym (c .before .before .before .before .move-line .ensures .0) ∙ c .before .before .from .given .1) (c .before .before .before .before .before .before .before .before .before .before .before .before .pre .1)
+slice-write-words c = search room
 
 add-j : tie.Need-add-j Inv-loop μ-loop
-add-j c =
-    let l = room _ _ _ _ _ (c .before .before .before .before .before .before .loop .inv) _ _ _ _ (sym (c .before .before .before .before .move-line .ensures .0) ∙ c .before .before .from .given .1) (c .before .before .before .before .before .before .before .before .before .before .before .before .pre .1) in
-    omega (arith, sized _ _ _ _ _ (c .before .before .before .before .before .before .loop .inv))
+add-j c = search next-fits
 
 sub-t-2 : tie.Need-sub-t-2 Inv-loop μ-loop
-sub-t-2 c =
-    let h = rw (c .before .before .from .given .1) at (c .before .before .before .before .move-line .ensures .1) in
-    omega arith
+sub-t-2 c = search line-ends
 
 part-t-start-2 : tie.Need-part-t-start-2 Inv-loop μ-loop
-part-t-start-2 c =
-    let h = rw (c .before .before .from .given .1) at (c .before .before .before .before .move-line .ensures .1) in
-    search needs
+part-t-start-2 c = search line-ends
 
 part-t-end-2 : tie.Need-part-t-end-2 Inv-loop μ-loop
 part-t-end-2 c = search needs
 
 loop-less : tie.Need-loop-less Inv-loop μ-loop
-loop-less c =
-    let h = rw (c .before .before .before .from .given .1) at (c .before .before .before .before .before .move-line .ensures .1) in
-    rw rest-is (omega (arith, length-drop (c .before .before .before .from .given .0 .1 .1 .1 .0) (c .before .before .before .before .before .before .before .loop .t .now)))
+loop-less c = search falls
 
 loop-again : tie.Need-loop-again Inv-loop μ-loop
-loop-again c =
-    rw (c .before .pack .ensures, rest-is)
-    (turn _ _ _ _ _ (c .before .before .before .before .before .before .before .loop .inv) _ _ _ _ (sym (c .before .before .before .before .before .move-line .ensures .0) ∙ c .before .before .before .from .given .1) (c .before .before .before .before .before .before .before .before .before .before .before .before .before .pre .1))
+loop-again c = search turn
 
 same-length-2 : tie.Need-same-length-2 Inv-loop μ-loop
-same-length-2 c = sized _ _ _ _ _ (c .before .loop .inv)
+same-length-2 c = search sized
 
 returns-3 : tie.Need-returns-3 Inv-loop μ-loop
-returns-3 c = done _ _ _ _ _ (c .before .loop .inv) (omega arith)
+returns-3 c = done (c .before .loop .inv) (omega arith)
 
 pub store-spec : {M : Type 1} → statement M
 store-spec =
