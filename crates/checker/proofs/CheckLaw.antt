@@ -64,5 +64,3 @@ module _ (j : Job) {t : Tested} (e : t ≡ testedOf j) where
 
 pub texts-passed : (j : Job) (a : Accepted) {t : Tested} → t ≡ testedOf j → t ≡ Passed a → testedOf j ≡ Passed a
 texts-passed j a e h = sym e ∙ h
-
-pub ruleset check-laws = (may-measure, is-refused, is-too-short, is-reported)

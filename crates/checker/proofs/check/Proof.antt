@@ -1,5 +1,5 @@
 use mathlib.Core.Path.{sym, _∙_}
-use Rattle.checker.proofs.CheckLaw.{texts-passed, check-laws}
+use Rattle.checker.proofs.CheckLaw.{is-refused, may-measure, is-too-short, texts-passed, is-reported}
 use borrow.Author.Needs.{needs}
 use Rattle.checker.proofs.check.Statement.{statement}
 use Rattle.checker.proofs.check.Tie as tie
@@ -14,20 +14,20 @@ enum-known-accepted : tie.Need-enum-known-accepted
 enum-known-accepted c = search needs
 
 too-short-requires : tie.Need-too-short-requires
-too-short-requires c κs = search (needs, check-laws)
+too-short-requires c κs = search may-measure
 
 returns : tie.Need-returns
-returns c = search (needs, check-laws)
+returns c = search is-too-short
 
 report-requires : tie.Need-report-requires
 report-requires c κs =
     record {
-      passed = search (needs, texts-passed);
+      passed = search texts-passed;
       room = sym (c .before .before .before .before .before .before .before .too-short .ensures) ∙ c .before .before .before .before .before .before .if1 .left;
     }
 
 returns-2 : tie.Need-returns-2
-returns-2 c = search (needs, check-laws)
+returns-2 c = search is-refused
 
 same-length : tie.Need-same-length
 same-length c = search needs
@@ -48,7 +48,7 @@ same-length-6 : tie.Need-same-length-6
 same-length-6 c = search needs
 
 returns-3 : tie.Need-returns-3
-returns-3 c = search (needs, check-laws)
+returns-3 c = search is-reported
 
 pub check-spec : {M : Type 1} → statement M
 check-spec =
