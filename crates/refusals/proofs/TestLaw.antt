@@ -1,6 +1,7 @@
 -- The tests of the sheet, then those of the formula. Assumes nothing.
 use mathlib.Core.Path.{_≡_, refl, sym, ap, _∙_}
-use Prim.Native.Nat.{ℕ, _-_, _≤_, _<_}
+use Prim.Native.Nat.{ℕ, _-_, _≤_}
+use native.Mathlib.Omega.{arith}
 use mathlib.Core.Bool.{true}
 use mathlib.Core.List.{_++_}
 use mathlib.Core.Option.{Option, none, some}
@@ -73,10 +74,10 @@ module _ (j : Job) where
   unfolding textRefusal
   both-parts = ap firstOf (all-tests j)
 
-  pub sheet-refused : (r : sheet-checked.Checked) → r ≡ checkedOf j → (k : ℕ) → r ≡ checked.Refused k → Refused k ≡ testedOf j
+  pub sheet-refused : (r : sheet-checked.Checked) → r ≡ checkedOf j → (k : ℕ) → r ≡ checked.Refused k → {n : ℕ} → n ≡ k → Refused n ≡ testedOf j
   unfolding testedOf
-  sheet-refused r e k h =
-      sym
+  sheet-refused r e k h w =
+      ap Refused w ∙ sym
       (ap (answer (acceptedOf j))
       (both-parts ∙ first-found (sheetTests j) (formulaTests j) k (sym (told-is r e) ∙ ap refusedWith h)))
 
@@ -107,8 +108,8 @@ module _ (j : Job) where
     pub first-start : 5 ≤ s .first
     first-start = rw first-is (word-before (j .labels) head-is)
 
-    pub first-end : s .first < length (j .labels)
-    first-end = rw first-is (line-ends (j .labels) head-is)
+    pub first-end : s .first ≤ length (j .labels)
+    first-end = let l = line-ends (j .labels) head-is in rw first-is (omega arith)
 
     names-are : partsBehind comma (take (s .first - 5) (drop 5 (j .labels))) ≡ namesOf (j .labels)
     names-are = rw first-is (names-behind (j .labels) head-is)

@@ -1,4 +1,3 @@
-use native.Mathlib.Omega.{arith}
 use Rattle.refusals.proofs.TestLaw.{sheet-refused, first-start, first-end, names-count, formula-refused, all-passed}
 use borrow.Author.Needs.{needs}
 use Rattle.refusals.proofs.test.Statement.{statement}
@@ -17,13 +16,13 @@ enum-known-s : tie.Need-enum-known-s
 enum-known-s c = search needs
 
 sub-test-formula : tie.Need-sub-test-formula
-sub-test-formula c = first-start _ _ (c .before .before .before .check .ensures) _ (c .before .s .given .1)
+sub-test-formula c = search first-start
 
 part-test-formula-start : tie.Need-part-test-formula-start
-part-test-formula-start c = omega (arith, first-start _ _ (c .before .before .before .check .ensures) _ (c .before .s .given .1), first-end _ _ (c .before .before .before .check .ensures) _ (c .before .s .given .1))
+part-test-formula-start c = search first-start
 
 part-test-formula-end : tie.Need-part-test-formula-end
-part-test-formula-end c = omega (arith, first-start _ _ (c .before .before .before .check .ensures) _ (c .before .s .given .1), first-end _ _ (c .before .before .before .check .ensures) _ (c .before .s .given .1))
+part-test-formula-end c = first-end _ _ (c .before .before .before .check .ensures) _ (c .before .s .given .1)
 
 test-formula-requires : tie.Need-test-formula-requires
 test-formula-requires c κs = names-count _ _ (c .before .before .before .before .check .ensures) _ (c .before .before .s .given .1)
@@ -35,13 +34,13 @@ enum-known-nodes : tie.Need-enum-known-nodes
 enum-known-nodes c = search needs
 
 returns : tie.Need-returns
-returns c = rw (c .wide .ensures) (sheet-refused _ _ (c .before .before .before .before .check .ensures) _ (c .before .before .k .given .1))
+returns c = search sheet-refused
 
 returns-2 : tie.Need-returns-2
-returns-2 c = formula-refused _ _ (c .before .before .before .before .before .before .before .before .check .ensures) _ (c .before .before .before .before .before .before .s .given .1) _ (c .before .before .before .test-formula .ensures) _ (c .before .k2 .given .1)
+returns-2 c = search formula-refused
 
 returns-3 : tie.Need-returns-3
-returns-3 c = all-passed _ _ (c .before .before .before .before .before .before .before .before .check .ensures) _ (c .before .before .before .before .before .before .s .given .1) _ (c .before .before .before .test-formula .ensures) _ (c .before .nodes .given .1)
+returns-3 c = search all-passed
 
 pub test-spec : {M : Type 1} → statement M
 test-spec =
