@@ -21,18 +21,18 @@ module _ (j : Job) (before : Buffers (List ℕ)) where
   unfolding Finished
   by x after e f = subst (λ (o : Outcome). FinishedBy j o before x after) (sym e) f
 
-  pub turned-back : (k : ℕ) → testedOf j ≡ Refused k → Finished j before (refusedWith k) before
+  turned-back : (k : ℕ) → testedOf j ≡ Refused k → Finished j before (refusedWith k) before
   unfolding FinishedBy
   turned-back k h = by (refusedWith k) before (refused-by-texts j (lengths before) k (refused-is j k h)) (record { answer = refl; untouched = refl })
 
   module _ (a : Accepted) (h : testedOf j ≡ Passed a) where
-    pub too-short : isShort (lengths before) (needed (a .states) (a .moves) (a .nodes)) ≡ true → Finished j before (refusedWith 15) before
+    too-short : isShort (lengths before) (needed (a .states) (a .moves) (a .nodes)) ≡ true → Finished j before (refusedWith 15) before
     unfolding FinishedBy
     too-short s =
         by (refusedWith 15) before (refused-by-lengths j (lengths before) (passed-is j a h) (sym (short-is j a h (lengths before)) ∙ s))
         (record { answer = refl; untouched = refl })
 
-    pub accepted : isShort (lengths before) (needed (a .states) (a .moves) (a .nodes)) ≡ false → {after : Buffers (List ℕ)} {d : ℕ} → Filled j before after d
+    accepted : isShort (lengths before) (needed (a .states) (a .moves) (a .nodes)) ≡ false → {after : Buffers (List ℕ)} {d : ℕ} → Filled j before after d
         → Finished j before (acceptedWith d) after
     unfolding FinishedBy
     accepted s {after = after} {d = d} f =

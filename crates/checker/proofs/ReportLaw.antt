@@ -80,9 +80,6 @@ module _ {j : Job} {a : Accepted} {before : Buffers (List ℕ)} (r : ReportAsked
   pub line-ends : a .first < length (j .labels)
   line-ends = omega (arith, first-are, kept .line-ends)
 
-  pub word-inside : 5 ≤ length (j .labels)
-  word-inside = omega (arith, word-before, line-ends)
-
   pub line-inside : a .first ≤ length (j .labels)
   line-inside = omega (arith, line-ends)
 
@@ -226,4 +223,4 @@ module _ {j : Job} {a : Accepted} {before : Buffers (List ℕ)} (r : ReportAsked
                   };
             }
 
-pub ruleset report-laws = (some-node, word-before, word-inside, line-inside, prepare-asked, words-long, part-long)
+pub ruleset report-laws = (some-node, word-before, line-inside, prepare-asked, words-long, part-long)
