@@ -97,7 +97,8 @@ module _ {l marks : List ℕ} {nodes : List Node} {root n q : ℕ} (a : Conclude
     load-fits : q * t ≤ mostRateHours
     unfolding untilsPass
     load-fits =
-        let i = and-eq-true-iff (leb (q * t) mostRateHours && untilsPass (λ u v. leb (q * v) mostRateHours) (is .g)) (untilsPass (λ u v. leb (q * v) mostRateHours) (is .h)) .0
+        let i = and-eq-true-iff (leb (q * t) mostRateHours && untilsPass (λ u v. leb (q * v) mostRateHours) (is .g))
+        (untilsPass (λ u v. leb (q * v) mostRateHours) (is .h)) .0
         (subst (λ z. untilsPass (λ u v. leb (q * v) mostRateHours) z ≡ true) (is .is) (a .loads)) in
         leb-true (q * t) mostRateHours (and-eq-true-iff (leb (q * t) mostRateHours) (untilsPass (λ u v. leb (q * v) mostRateHours) (is .g)) .0 (i .0) .0)
 
