@@ -6,27 +6,21 @@ use Rattle.moves.proofs.facts_of.Lts as lts
 use Rattle.moves.proofs.unended.Reads as unended-reads
 use Rattle.moves.proofs.unless.Reads as unless-reads
 
--- src/lib.rt:190:28
 enum-told : tie.Need-enum-told
 enum-told c = search needs
 
--- src/lib.rt:190:28
 unended-requires : tie.Need-unended-requires
 unended-requires c κs = search needs
 
--- src/lib.rt:191:24
 enum-known-lines : tie.Need-enum-known-lines
 enum-known-lines c = search needs
 
--- src/lib.rt:199:18
 unless-requires : tie.Need-unless-requires
 unless-requires c κs = search needs
 
--- src/lib.rt:186:1
 returns : tie.Need-returns
 returns c = search needs
 
--- src/lib.rt:186:1
 returns-2 : tie.Need-returns-2
 returns-2 c = rw (c .before .before .before .before .lines .given .1, c .unless .ensures)
 

@@ -6,31 +6,24 @@ use Rattle.moves.proofs.Tally.add.Lts as lts
 use Rattle.moves.proofs.greater.Reads as greater-reads
 use Rattle.moves.proofs.run_sum.Reads as run-sum-reads
 
--- src/lib.rt:103:21
 mul-place : tie.Need-mul-place
 mul-place c = search needs
 
--- src/lib.rt:103:21
 add-place : tie.Need-add-place
 add-place c = search needs
 
--- src/lib.rt:104:13
 run-sum-requires : tie.Need-run-sum-requires
 run-sum-requires c κs = search needs
 
--- src/lib.rt:106:20
 add-t10 : tie.Need-add-t10
 add-t10 c = search needs
 
--- src/lib.rt:111:18
 greater-requires : tie.Need-greater-requires
 greater-requires c κs = search needs
 
--- src/lib.rt:112:19
 add-t22 : tie.Need-add-t22
 add-t22 c = search needs
 
--- src/lib.rt:99:5
 returns : tie.Need-returns
 returns c = rw (c .greater .ensures, c .before .before .before .before .before .before .before .run-sum .ensures)
 
