@@ -1,5 +1,5 @@
-use mathlib.Core.Path.{sym, _∙_}
-use Rattle.tokens.proofs.HeadLaw.{head-truth, head-name, head-bang, head-ampersand, head-chance, head-other}
+-- `read_head` meets its contract, by the laws of `HeadLaw`: the tests in their order. Assumes nothing.
+use Rattle.tokens.proofs.HeadLaw.{head-laws}
 use borrow.Author.Needs.{needs}
 use Rattle.tokens.proofs.read_head.Statement.{statement}
 use Rattle.tokens.proofs.read_head.Tie as tie
@@ -11,13 +11,13 @@ same-requires : tie.Need-same-requires
 same-requires c κs = search needs
 
 returns : tie.Need-returns
-returns c = head-truth _ (sym (c .before .same .ensures) ∙ c .if1 .taken)
+returns c = search (needs, head-laws)
 
 is-word-requires : tie.Need-is-word-requires
 is-word-requires c κs = search needs
 
 returns-2 : tie.Need-returns-2
-returns-2 c = head-name _ (sym (c .before .before .before .same .ensures) ∙ c .before .before .if1 .left) (sym (c .before .is-word .ensures) ∙ c .if2 .taken)
+returns-2 c = search (needs, head-laws)
 
 slice-aggregate-same-2 : tie.Need-slice-aggregate-same-2
 slice-aggregate-same-2 c = search needs
@@ -26,7 +26,7 @@ same-requires-2 : tie.Need-same-requires-2
 same-requires-2 c κs = search needs
 
 returns-3 : tie.Need-returns-3
-returns-3 c = head-bang _ (sym (c .before .before .before .before .before .before .same .ensures) ∙ c .before .before .before .before .before .if1 .left) (sym (c .before .before .before .before .is-word .ensures) ∙ c .before .before .before .if2 .left) (sym (c .before .same2 .ensures) ∙ c .if3 .taken)
+returns-3 c = search (needs, head-laws)
 
 slice-aggregate-same-3 : tie.Need-slice-aggregate-same-3
 slice-aggregate-same-3 c = search needs
@@ -35,7 +35,7 @@ same-requires-3 : tie.Need-same-requires-3
 same-requires-3 c κs = search needs
 
 returns-4 : tie.Need-returns-4
-returns-4 c = head-ampersand _ (sym (c .before .before .before .before .before .before .before .before .before .same .ensures) ∙ c .before .before .before .before .before .before .before .before .if1 .left) (sym (c .before .before .before .before .before .before .before .is-word .ensures) ∙ c .before .before .before .before .before .before .if2 .left) (sym (c .before .before .before .before .same2 .ensures) ∙ c .before .before .before .if3 .left) (sym (c .before .same3 .ensures) ∙ c .if4 .taken)
+returns-4 c = search (needs, head-laws)
 
 slice-aggregate-same-4 : tie.Need-slice-aggregate-same-4
 slice-aggregate-same-4 c = search needs
@@ -44,10 +44,10 @@ same-requires-4 : tie.Need-same-requires-4
 same-requires-4 c κs = search needs
 
 returns-5 : tie.Need-returns-5
-returns-5 c = head-chance _ (sym (c .before .before .before .before .before .before .before .before .before .before .before .before .same .ensures) ∙ c .before .before .before .before .before .before .before .before .before .before .before .if1 .left) (sym (c .before .before .before .before .before .before .before .before .before .before .is-word .ensures) ∙ c .before .before .before .before .before .before .before .before .before .if2 .left) (sym (c .before .before .before .before .before .before .before .same2 .ensures) ∙ c .before .before .before .before .before .before .if3 .left) (sym (c .before .before .before .before .same3 .ensures) ∙ c .before .before .before .if4 .left) (sym (c .before .same4 .ensures) ∙ c .if5 .taken)
+returns-5 c = search (needs, head-laws)
 
 returns-6 : tie.Need-returns-6
-returns-6 c = (head-other _ (sym (c .before .before .before .before .before .before .before .before .before .before .before .before .same .ensures) ∙ c .before .before .before .before .before .before .before .before .before .before .before .if1 .left) (sym (c .before .before .before .before .before .before .before .before .before .before .is-word .ensures) ∙ c .before .before .before .before .before .before .before .before .before .if2 .left) (sym (c .before .before .before .before .before .before .before .same2 .ensures) ∙ c .before .before .before .before .before .before .if3 .left) (sym (c .before .before .before .before .same3 .ensures) ∙ c .before .before .before .if4 .left) (sym (c .before .same4 .ensures) ∙ c .if5 .left), search needs)
+returns-6 c = search (needs, head-laws)
 
 pub read-head-spec : {M : Type 1} → statement M
 read-head-spec =
