@@ -5,6 +5,7 @@ use mathlib.Core.Option.{none, some}
 use Rattle.csl.specs.Text.{Text, bytes, same}
 use Rattle.csl.specs.Formula.{Less, AtMost, AtLeast, More}
 use Rattle.csl.specs.Grammar.{comparisonOf}
+use Rattle.tokens.proofs.HeadLaw.{told}
 
 module _ (w : Text) where
   pub sign-less : same w (bytes "<") ≡ true → some Less ≡ comparisonOf w
@@ -28,3 +29,5 @@ module _ (w : Text) where
       → none ≡ comparisonOf w
   unfolding comparisonOf
   sign-none a b d e = rw (a, b, d, e)
+
+pub ruleset sign-laws = (told, sign-less, sign-at-most, sign-at-least, sign-more, sign-none)

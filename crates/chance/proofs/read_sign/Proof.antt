@@ -1,5 +1,5 @@
-use mathlib.Core.Path.{sym, _∙_}
-use Rattle.chance.proofs.SignLaw.{sign-less, sign-at-most, sign-at-least, sign-more, sign-none}
+-- `read_sign` meets its contract, by the laws of `SignLaw`: the tests in their order. Assumes nothing.
+use Rattle.chance.proofs.SignLaw.{sign-laws}
 use borrow.Author.Needs.{needs}
 use Rattle.chance.proofs.read_sign.Statement.{statement}
 use Rattle.chance.proofs.read_sign.Tie as tie
@@ -11,7 +11,7 @@ same-requires : tie.Need-same-requires
 same-requires c κs = search needs
 
 returns : tie.Need-returns
-returns c = sign-less _ (sym (c .before .same .ensures) ∙ c .if1 .taken)
+returns c = search (needs, sign-laws)
 
 slice-aggregate-same-2 : tie.Need-slice-aggregate-same-2
 slice-aggregate-same-2 c = search needs
@@ -20,7 +20,7 @@ same-requires-2 : tie.Need-same-requires-2
 same-requires-2 c κs = search needs
 
 returns-2 : tie.Need-returns-2
-returns-2 c = sign-at-most _ (sym (c .before .before .before .before .same .ensures) ∙ c .before .before .before .if1 .left) (sym (c .before .same2 .ensures) ∙ c .if2 .taken)
+returns-2 c = search (needs, sign-laws)
 
 slice-aggregate-same-3 : tie.Need-slice-aggregate-same-3
 slice-aggregate-same-3 c = search needs
@@ -29,7 +29,7 @@ same-requires-3 : tie.Need-same-requires-3
 same-requires-3 c κs = search needs
 
 returns-3 : tie.Need-returns-3
-returns-3 c = sign-at-least _ (sym (c .before .before .before .before .before .before .before .same .ensures) ∙ c .before .before .before .before .before .before .if1 .left) (sym (c .before .before .before .before .same2 .ensures) ∙ c .before .before .before .if2 .left) (sym (c .before .same3 .ensures) ∙ c .if3 .taken)
+returns-3 c = search (needs, sign-laws)
 
 slice-aggregate-same-4 : tie.Need-slice-aggregate-same-4
 slice-aggregate-same-4 c = search needs
@@ -38,10 +38,10 @@ same-requires-4 : tie.Need-same-requires-4
 same-requires-4 c κs = search needs
 
 returns-4 : tie.Need-returns-4
-returns-4 c = sign-more _ (sym (c .before .before .before .before .before .before .before .before .before .before .same .ensures) ∙ c .before .before .before .before .before .before .before .before .before .if1 .left) (sym (c .before .before .before .before .before .before .before .same2 .ensures) ∙ c .before .before .before .before .before .before .if2 .left) (sym (c .before .before .before .before .same3 .ensures) ∙ c .before .before .before .if3 .left) (sym (c .before .same4 .ensures) ∙ c .if4 .taken)
+returns-4 c = search (needs, sign-laws)
 
 returns-5 : tie.Need-returns-5
-returns-5 c = sign-none _ (sym (c .before .before .before .before .before .before .before .before .before .before .same .ensures) ∙ c .before .before .before .before .before .before .before .before .before .if1 .left) (sym (c .before .before .before .before .before .before .before .same2 .ensures) ∙ c .before .before .before .before .before .before .if2 .left) (sym (c .before .before .before .before .same3 .ensures) ∙ c .before .before .before .if3 .left) (sym (c .before .same4 .ensures) ∙ c .if4 .left)
+returns-5 c = search (needs, sign-laws)
 
 pub read-sign-spec : {M : Type 1} → statement M
 read-sign-spec =
