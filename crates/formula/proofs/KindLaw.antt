@@ -71,6 +71,8 @@ module _ (s : Text) (i : ℕ) (b : Bound)
     chance-whole m u n first second k v q x y =
         rw (is (path hollow), e, two-tail s t behind, then (λ j. pair hollow (csl.until (comparisonOf c) p j)), k, two-tail t u v, ← q, held-again, x, y)
 
+pub ruleset chance-laws = (chance-unbound, chance-endless, chance-whole)
+
 -- h is the kind of the first token w
 module _ (names : List Text) (i : ℕ) (w : Text) (ts : List Text) (h : Head) (meant : headMeant h ≡ headOf w) where
   pub top-is : (g : Head) (k : Kind) → h ≡ g → k ≡ headKind names i w (headMeant g) ts → k ≡ topKind names i w ts

@@ -1,4 +1,5 @@
-use Rattle.formula.proofs.KindLaw.{chance-unbound, chance-endless, chance-whole}
+-- `chance_kind` meets its contract, by the laws of `KindLaw`. Assumes nothing.
+use Rattle.formula.proofs.KindLaw.{chance-laws}
 use borrow.Author.Needs.{needs}
 use Rattle.formula.proofs.chance_kind.Statement.{statement}
 use Rattle.formula.proofs.chance_kind.Tie as tie
@@ -37,13 +38,13 @@ before-requires-2 : tie.Need-before-requires-2
 before-requires-2 c κs = search needs
 
 returns : tie.Need-returns
-returns c = chance-unbound _ _ _ (c .before .before .read-bound .ensures) (c .enum-told .given .1)
+returns c = search (needs, chance-laws)
 
 returns-2 : tie.Need-returns-2
-returns-2 c = chance-endless _ _ _ (c .before .before .before .before .before .before .read-bound .ensures) _ _ (c .before .before .before .before .c .given .1) _ (c .before .before .before .before .before .before .before .after-two .ensures) _ (c .before .before .read-hours .ensures) (c .enum-told2 .given .1)
+returns-2 c = search (needs, chance-laws)
 
 returns-3 : tie.Need-returns-3
-returns-3 c = chance-whole _ _ _ (c .before .before .before .before .before .before .before .before .before .before .before .read-bound .ensures) _ _ (c .before .before .before .before .before .before .before .before .before .c .given .1) _ (c .before .before .before .before .before .before .before .before .before .before .before .before .after-two .ensures) _ (c .before .before .before .before .before .before .before .read-hours .ensures) _ _ _ _ _ (c .before .before .before .before .before .h .given .1) (c .before .before .after-two2 .ensures) (c .before .nodes-of .ensures) (c .before .before .before .before2 .ensures) (c .before3 .ensures)
+returns-3 c = search (needs, chance-laws)
 
 pub chance-kind-spec : {M : Type 1} → statement M
 chance-kind-spec =
