@@ -7,7 +7,7 @@ use mathlib.Core.List.{List}
 use mathlib.Core.Option.{Option, none, some}
 use lib.ListN.{take}
 use lib.Dec.{leb}
-use borrow.Author.Tests.{le-leb, lt-leb, leb-true}
+use borrow.Author.Tests.{le-leb, lt-leb, leb-true, not-true, not-false}
 use Rattle.csl.specs.Text.{Text}
 use Rattle.csl.specs.Line.{lineFeed, space, parts}
 use Rattle.csl.specs.Formula.{Formula, nodes, levels}
@@ -78,3 +78,5 @@ built names o r e = (e, rw e (go o))
     go : (p : Option Formula) → (storeOf names p) .count ≤ 64
     go none = omega arith
     go (some f) = within f (leb (nodes f) 64) refl (leb (levels f) 16)
+
+pub ruleset build-laws = (not-true, not-false, build-unread, build-large, build-deep, build-whole)
