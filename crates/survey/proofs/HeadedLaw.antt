@@ -23,14 +23,11 @@ use Rattle.survey.specs.Size.{sizeOf, overOne, SizeFits}
 use Rattle.survey.specs.declared.Size.{Size}
 use Rattle.survey.specs.declared.Size.the-variants.{Read, Wrong}
 use Rattle.survey.proofs.FitsLaw.{fits-wider, fits-one, fits-none}
-use Rattle.survey.proofs.PairLaw.{Paired, Pathed}
+use Rattle.survey.proofs.PairLaw.{Stated, Paired, Pathed}
 
--- what `size_headed` and `size_state` promise
+-- what `size_headed` promises
 abbrev pub Headed : Text → Text → Size → Type 0
 Headed w s r = (r ≡ sizeOf (state read w (headOf w) (tokens s))) × SizeFits r (1 + (length w + length s))
-
-abbrev pub Stated : Text → Size → Type 0
-Stated s r = (r ≡ sizeOf (read (tokens s))) × SizeFits r (length s)
 
 over-found : (fd : Found) → overOne (sizeOf fd) ≡ sizeOf (andThen fd λ a rest. found (negated a) rest)
 unfolding andThen nodes levels
@@ -38,28 +35,28 @@ over-found nothing = refl
 over-found (found f rest) = refl
 
 -- h is the kind of the first token w
-module _ (w s : Text) (h : Head) (meant : headMeant h ≡ headOf w) (fits : HeadFits h (length w)) where
+module _ (w s : Text) (h : Head) (told : (headMeant h ≡ headOf w) × HeadFits h (length w)) where
   pub headed-other : h ≡ Other → Headed w s Wrong
   unfolding state
-  headed-other e = (rw (← meant, e), omega arith)
+  headed-other e = (rw (← (told .0), e), omega arith)
 
   pub headed-truth : h ≡ Truth → Headed w s (Read (length s) 1 1)
   unfolding state nodes levels
-  headed-truth e = let f = rw e at fits in (rw (← meant, e, bytes-behind), (omega arith, omega arith, omega arith))
+  headed-truth e = let f = rw e at (told .1) in (rw (← (told .0), e, bytes-behind), (omega arith, omega arith, omega arith))
 
   pub headed-name : h ≡ Name → Headed w s (Read (length s) 1 1)
   unfolding state nodes levels
-  headed-name e = let f = rw e at fits in (rw (← meant, e, bytes-behind), (omega arith, omega arith, omega arith))
+  headed-name e = let f = rw e at (told .1) in (rw (← (told .0), e, bytes-behind), (omega arith, omega arith, omega arith))
 
   pub headed-bang : (a r : Size) → h ≡ Bang → Stated s a → r ≡ overOne a → Headed w s r
   unfolding state
   headed-bang a r e q o =
-      let f = rw e at fits in
-      (rw (← meant, e, o, q .0) (over-found (read (tokens s))), rw o (fits-wider (overOne a) _ _ (fits-one a _ (q .1)) (omega arith)))
+      let f = rw e at (told .1) in
+      (rw (← (told .0), e, o, q .0) (over-found (read (tokens s))), rw o (fits-wider (overOne a) _ _ (fits-one a _ (q .1)) (omega arith)))
 
   pub headed-ampersand : (r : Size) → h ≡ Ampersand → Paired s r → Headed w s r
   unfolding state
-  headed-ampersand r e q = let f = rw e at fits in (rw (← meant, e) (q .0), fits-wider r _ _ (q .1) (omega arith))
+  headed-ampersand r e q = let f = rw e at (told .1) in (rw (← (told .0), e) (q .0), fits-wider r _ _ (q .1) (omega arith))
 
   -- b are its comparison and threshold
   module _ (e : h ≡ Chance) (b : Bound)
@@ -67,14 +64,14 @@ module _ (w s : Text) (h : Head) (meant : headMeant h ≡ headOf w) (fits : Head
       → onComparison (tokens s) (λ c more. onNumber more (next c)) ≡ boundThen b next (tail (tail (tokens s)))) where
     pub headed-unbound : b ≡ bound.Missing → Headed w s Wrong
     unfolding state
-    headed-unbound k = (rw (← meant, e, is (path read), k), omega arith)
+    headed-unbound k = (rw (← (told .0), e, is (path read), k), omega arith)
 
     pub headed-chance : (c : Comparison) (p : ℕ) (u : Text) (r : Size) → b ≡ bound.Is c p → u ≡ afterPart space (afterPart space s)
         → Pathed u r → Headed w s r
     unfolding state
     headed-chance c p u r k v q =
-        let f = rw e at fits in (
-          rw (← meant, e, is (path read), k, two-tail s u v) (q .0 (comparisonOf c) p),
+        let f = rw e at (told .1) in (
+          rw (← (told .0), e, is (path read), k, two-tail s u v) (q .0 (comparisonOf c) p),
           fits-wider r _ _ (q .1) (omega (arith, two-within s u v)),
         )
 

@@ -3,13 +3,14 @@ use mathlib.Core.Path.{_≡_, refl, sym, _∙_}
 use Prim.Native.Nat.{ℕ, _+_, _-_, _*_, _≤_, max}
 use native.Mathlib.Omega.{arith}
 use mathlib.Core.List.{List, tail}
-use lib.ListN.{length, drop, length-drop}
+use lib.ListN.{length, take, drop, length-drop}
 use Rattle.csl.specs.Text.{Text, bytes}
 use Rattle.csl.specs.Line.{space}
 use Rattle.csl.specs.Formula.{Formula, both, until, nodes, levels, Comparison}
 use Rattle.csl.specs.Grammar.{Found, nothing, found, andThen, onNumber, onWord, pair, path}
 use Rattle.grammar.specs.Left.{Leaves, none-read, left}
 use Rattle.grammar.specs.Fixed.{read, read-leaves}
+use Rattle.texts.specs.Cut.{rest-is}
 use Rattle.tokens.specs.Behind.{tokens, bytesOf, afterPart, last-behind, two-within, two-tail}
 use Rattle.chance.specs.Chance.{hoursThen}
 use Rattle.chance.specs.declared.Amount.{Amount}
@@ -57,29 +58,48 @@ unfolding andThen
 nothing-wrong nothing e next = refl
 nothing-wrong (found f rest) e next = let z : _≡_ {A = ℕ} 0 1 = cc in absurd (omega arith)
 
+-- what `size_state` promises of the rest s
+abbrev pub Stated : Text → Size → Type 0
+Stated s r = (r ≡ sizeOf (read (tokens s))) × SizeFits r (length s)
+
+-- the rest of s of which l bytes are left
+abbrev lastOf : Text → ℕ → Text
+lastOf s l = take (length s - (length s - l)) (drop (length s - l) s)
+
+last-stated : (s : Text) (l : ℕ) (b : Size) → Stated (lastOf s l) b → Stated (drop (length s - l) s) b
+last-stated s l b q = rw rest-is at q
+
 -- a is the first operand's size
-module _ (s : Text) (a : Size) (is : a ≡ sizeOf (read (tokens s))) where
+module _ (s : Text) (a : Size) (first : Stated s a) where
   pub pair-wrong : a ≡ Wrong → Paired s Wrong
   unfolding pair
-  pair-wrong e = (nothing-wrong (read (tokens s)) (sym is ∙ e) _, omega arith)
+  pair-wrong e = (nothing-wrong (read (tokens s)) (sym (first .0) ∙ e) _, omega arith)
 
-  pub pair-two : (l n d : ℕ) (b r : Size) → SizeFits a (length s) → a ≡ Read l n d → b ≡ sizeOf (read (tokens (drop (length s - l) s)))
-      → SizeFits b (length (drop (length s - l) s)) → r ≡ overTwo n d b → Paired s r
-  unfolding pair andThen
-  pair-two l n d b r f e second g q =
-      let h = rw e at f in (
-        go (read-leaves (tokens s)) (sym is ∙ e),
-        rw q (fits-two n d b l (length s) (omega arith) (omega arith) (fits-wider b _ l g (omega (arith, length-drop (length s - l) s)))),
-      )
-    where
-      go : {fd : Found} → Leaves (tokens s) fd → sizeOf fd ≡ Read l n d
-          → r ≡ sizeOf (andThen fd λ x more. andThen (read more) λ y rest. found (both x y) rest)
-      go none-read k = let z : _≡_ {A = ℕ} 0 1 = cc in absurd (omega arith)
-      go (left {rest = more} {f = f} la) k =
-          let x : bytesOf more ≡ l = cc in
-          let y : nodes f ≡ n = cc in
-          let z : levels f ≡ d = cc in
-          q ∙ rw (second, ← x, last-behind space s more la, ← y, ← z) (sym (over-first both both-counted f (read more)))
+  -- and b the second's
+  module _ (l n d : ℕ) (e : a ≡ Read l n d) (b : Size) (rest : Stated (lastOf s l) b) where
+    pub pair-two : (r : Size) → r ≡ overTwo n d b → Paired s r
+    unfolding pair andThen
+    pair-two r q =
+        let h = rw e at (first .1) in
+        let second = last-stated s l b rest in (
+          go (read-leaves (tokens s)) (sym (first .0) ∙ e),
+          rw q (fits-two n d b l (length s) (omega arith) (omega arith) (fits-wider b _ l (second .1) (omega (arith, length-drop (length s - l) s)))),
+        )
+      where
+        go : {fd : Found} → Leaves (tokens s) fd → sizeOf fd ≡ Read l n d
+            → r ≡ sizeOf (andThen fd λ x more. andThen (read more) λ y rest. found (both x y) rest)
+        go none-read k = let z : _≡_ {A = ℕ} 0 1 = cc in absurd (omega arith)
+        go (left {rest = more} {f = f} la) k =
+            let x : bytesOf more ≡ l = cc in
+            let y : nodes f ≡ n = cc in
+            let z : levels f ≡ d = cc in
+            q ∙ rw (last-stated s l b rest .0, ← x, last-behind space s more la, ← y, ← z) (sym (over-first both both-counted f (read more)))
+
+    -- what `over_two` asks
+    pub pair-asks : (most : ℕ) → length s ≤ most → (d ≤ n) × (2 * n ≤ most) × SizeFits b (most - 2 * n)
+    pair-asks most h =
+        let k = rw e at (first .1) in
+        (omega arith, omega arith, fits-wider b _ _ (last-stated s l b rest .1) (omega (arith, length-drop (length s - l) s)))
 
 -- h are the hours
 module _ (s : Text) (h : Amount)
@@ -94,10 +114,3 @@ module _ (s : Text) (h : Amount)
     λ c p. rw (is (λ t. pair read (until c p t)), e, two-tail s u v) (q .0 ∙ sym (over-both (until c p t) (until-counted c p t) (read (tokens u)))),
     fits-wider r _ _ (q .1) (omega (arith, two-within s u v)),
   )
-
--- what `over_two` asks
-pub pair-asks : (s : Text) (l n d most : ℕ) (a b : Size) → SizeFits a (length s) → a ≡ Read l n d → length s ≤ most
-    → SizeFits b (length (drop (length s - l) s)) → (d ≤ n) × (2 * n ≤ most) × SizeFits b (most - 2 * n)
-pair-asks s l n d most a b f e h g =
-    let k = rw e at f in
-    (omega arith, omega arith, fits-wider b _ _ g (omega (arith, length-drop (length s - l) s)))

@@ -1,9 +1,9 @@
+-- The sizes of state formulas, of pairs and of paths meet their contracts, by the laws of `HeadedLaw` and `PairLaw`. Assumes nothing.
 use Prim.Native.Nat.{_<_}
 use borrow.Author.Needs.{needs}
 use native.Mathlib.Omega.{arith}
 use Prim.Native.Nat.{_+_, _*_}
 use lib.ListN.{length}
-use Rattle.texts.specs.Cut.{rest-is}
 use Rattle.tokens.specs.Behind.{token-within, two-within}
 use Rattle.survey.proofs.FitsLaw.{fits-wider}
 use Rattle.survey.proofs.PairLaw.{pair-wrong, pair-two, pair-asks, path-wrong, path-some}
@@ -138,10 +138,13 @@ size-headed-enum-told-4 : (t : ℕ) → size-headed-lts.Need-enum-told-4 (calls-
 size-headed-enum-told-4 t c = search needs
 
 size-headed-size-state-requires : (t : ℕ) → size-headed-lts.Need-size-state-requires (calls-size-headed t) (size-headed-at t) size-headed.Post
-size-headed-size-state-requires t c κs = let h = rw (c .enum-told4 .given .1) at (c .before .before .read-head .ensures .1) in search needs
+size-headed-size-state-requires t c κs =
+    let h = rw (c .enum-told4 .given .1) at (c .before .before .read-head .ensures .1) in search needs
 
 size-headed-over-one-requires : (t : ℕ) → size-headed-lts.Need-over-one-requires (calls-size-headed t) (size-headed-at t) size-headed.Post
-size-headed-over-one-requires t c κs = fits-wider (c .size-state .result) (length (c .before .before .before .before .before .before .args .s .now)) 18446744073709551615 (c .size-state .ensures .1) (omega arith)
+size-headed-over-one-requires t c κs =
+    let rest = c .before .before .before .before .before .before .args .s .now in
+    fits-wider (c .size-state .result) (length rest) 18446744073709551615 (c .size-state .ensures .1) (omega arith)
 
 size-headed-enum-told-5 : (t : ℕ) → size-headed-lts.Need-enum-told-5 (calls-size-headed t) (size-headed-at t) size-headed.Post
 size-headed-enum-told-5 t c = search needs
@@ -165,28 +168,40 @@ size-headed-after-two-requires : (t : ℕ) → size-headed-lts.Need-after-two-re
 size-headed-after-two-requires t c κs = search needs
 
 size-headed-size-path-requires : (t : ℕ) → size-headed-lts.Need-size-path-requires (calls-size-headed t) (size-headed-at t) size-headed.Post
-size-headed-size-path-requires t c κs = (let h = rw (c .before .before .before .before .enum-told6 .given .1) at (c .before .before .before .before .before .before .read-head .ensures .1) in omega (arith, two-within _ _ (c .after-two .ensures)), tt)
+size-headed-size-path-requires t c κs =
+    let h = rw (c .before .before .before .before .enum-told6 .given .1) at (c .before .before .before .before .before .before .read-head .ensures .1) in
+    (omega (arith, two-within _ _ (c .after-two .ensures)), tt)
 
 size-headed-returns : (t : ℕ) → size-headed-lts.Need-returns (calls-size-headed t) (size-headed-at t) size-headed.Post
-size-headed-returns t c = headed-other _ _ _ (c .before .before .read-head .ensures .0) (c .before .before .read-head .ensures .1) (c .enum-told .given .1)
+size-headed-returns t c = headed-other _ _ _ (c .before .before .read-head .ensures) (c .enum-told .given .1)
 
 size-headed-returns-2 : (t : ℕ) → size-headed-lts.Need-returns-2 (calls-size-headed t) (size-headed-at t) size-headed.Post
-size-headed-returns-2 t c = headed-truth _ _ _ (c .before .before .read-head .ensures .0) (c .before .before .read-head .ensures .1) (c .enum-told2 .given .1)
+size-headed-returns-2 t c = headed-truth _ _ _ (c .before .before .read-head .ensures) (c .enum-told2 .given .1)
 
 size-headed-returns-3 : (t : ℕ) → size-headed-lts.Need-returns-3 (calls-size-headed t) (size-headed-at t) size-headed.Post
-size-headed-returns-3 t c = headed-name _ _ _ (c .before .before .read-head .ensures .0) (c .before .before .read-head .ensures .1) (c .enum-told3 .given .1)
+size-headed-returns-3 t c = headed-name _ _ _ (c .before .before .read-head .ensures) (c .enum-told3 .given .1)
 
 size-headed-returns-4 : (t : ℕ) → size-headed-lts.Need-returns-4 (calls-size-headed t) (size-headed-at t) size-headed.Post
-size-headed-returns-4 t c = headed-bang _ _ _ (c .before .before .before .before .read-head .ensures .0) (c .before .before .before .before .read-head .ensures .1) _ _ (c .before .before .enum-told4 .given .1) (c .before .size-state .ensures) (c .over-one .ensures)
+size-headed-returns-4 t c =
+    let head = c .before .before .before .before .read-head .ensures in
+    headed-bang _ _ _ head _ _ (c .before .before .enum-told4 .given .1) (c .before .size-state .ensures) (c .over-one .ensures)
 
 size-headed-returns-5 : (t : ℕ) → size-headed-lts.Need-returns-5 (calls-size-headed t) (size-headed-at t) size-headed.Post
-size-headed-returns-5 t c = headed-ampersand _ _ _ (c .before .before .before .read-head .ensures .0) (c .before .before .before .read-head .ensures .1) _ (c .before .enum-told5 .given .1) (c .size-pair .ensures)
+size-headed-returns-5 t c =
+    headed-ampersand _ _ _ (c .before .before .before .read-head .ensures) _ (c .before .enum-told5 .given .1) (c .size-pair .ensures)
 
 size-headed-returns-6 : (t : ℕ) → size-headed-lts.Need-returns-6 (calls-size-headed t) (size-headed-at t) size-headed.Post
-size-headed-returns-6 t c = headed-unbound _ _ _ (c .before .before .before .before .before .read-head .ensures .0) (c .before .before .before .before .before .read-head .ensures .1) (c .before .before .before .enum-told6 .given .1) _ (c .before .before .read-bound .ensures) (c .enum-told7 .given .1)
+size-headed-returns-6 t c =
+    let head = c .before .before .before .before .before .read-head .ensures in
+    headed-unbound _ _ _ head (c .before .before .before .enum-told6 .given .1) _ (c .before .before .read-bound .ensures) (c .enum-told7 .given .1)
 
 size-headed-returns-7 : (t : ℕ) → size-headed-lts.Need-returns-7 (calls-size-headed t) (size-headed-at t) size-headed.Post
-size-headed-returns-7 t c = headed-chance _ _ _ (c .before .before .before .before .before .before .before .read-head .ensures .0) (c .before .before .before .before .before .before .before .read-head .ensures .1) (c .before .before .before .before .before .enum-told6 .given .1) _ (c .before .before .before .before .read-bound .ensures) _ _ _ _ (c .before .before .enum-told8 .given .1) (c .before .after-two .ensures) (c .size-path .ensures)
+size-headed-returns-7 t c =
+    let head = c .before .before .before .before .before .before .before .read-head .ensures in
+    let is-chance = c .before .before .before .before .before .enum-told6 .given .1 in
+    let bound = c .before .before .before .before .read-bound .ensures in
+    let is-bound = c .before .before .enum-told8 .given .1 in
+    headed-chance _ _ _ head is-chance _ bound _ _ _ _ is-bound (c .before .after-two .ensures) (c .size-path .ensures)
 
 size-pair-size-state-requires : (t : ℕ) → size-pair-lts.Need-size-state-requires (calls-size-pair t) (size-pair-at t) size-pair.Post
 size-pair-size-state-requires t c κs = search needs
@@ -198,7 +213,8 @@ size-pair-enum-known-left : (t : ℕ) → size-pair-lts.Need-enum-known-left (ca
 size-pair-enum-known-left t c = search needs
 
 size-pair-sub-size-state : (t : ℕ) → size-pair-lts.Need-sub-size-state (calls-size-pair t) (size-pair-at t) size-pair.Post
-size-pair-sub-size-state t c = let h = rw (c .before .left .given .1) at (c .before .before .before .size-state .ensures .1) in omega arith
+size-pair-sub-size-state t c =
+    let h = rw (c .before .left .given .1) at (c .before .before .before .size-state .ensures .1) in omega arith
 
 size-pair-sub-size-state-2 : (t : ℕ) → size-pair-lts.Need-sub-size-state-2 (calls-size-pair t) (size-pair-at t) size-pair.Post
 size-pair-sub-size-state-2 t c = search needs
@@ -210,16 +226,22 @@ size-pair-part-size-state-end : (t : ℕ) → size-pair-lts.Need-part-size-state
 size-pair-part-size-state-end t c = search needs
 
 size-pair-size-state-requires-2 : (t : ℕ) → size-pair-lts.Need-size-state-requires-2 (calls-size-pair t) (size-pair-at t) size-pair.Post
-size-pair-size-state-requires-2 t c κs = let h = rw (c .before .before .left .given .1) at (c .before .before .before .before .size-state .ensures .1) in search needs
+size-pair-size-state-requires-2 t c κs =
+    let h = rw (c .before .before .left .given .1) at (c .before .before .before .before .size-state .ensures .1) in search needs
 
 size-pair-over-two-requires : (t : ℕ) → size-pair-lts.Need-over-two-requires (calls-size-pair t) (size-pair-at t) size-pair.Post
-size-pair-over-two-requires t c κs = pair-asks (c .before .before .before .before .before .before .before .args .s .now) _ _ _ 18446744073709551615 (c .before .before .before .before .before .size-state .result) (c .size-state2 .result) (c .before .before .before .before .before .size-state .ensures .1) (c .before .before .before .left .given .1) (omega arith) (rw rest-is at (c .size-state2 .ensures .1))
+size-pair-over-two-requires t c κs =
+    let s = c .before .before .before .before .before .before .before .args .s .now in
+    let first = c .before .before .before .before .before .size-state .ensures in
+    pair-asks s _ first _ _ _ (c .before .before .before .left .given .1) _ (c .size-state2 .ensures) 18446744073709551615 (omega arith)
 
 size-pair-returns : (t : ℕ) → size-pair-lts.Need-returns (calls-size-pair t) (size-pair-at t) size-pair.Post
-size-pair-returns t c = pair-wrong _ _ (c .before .before .size-state .ensures .0) (c .enum-told .given .1)
+size-pair-returns t c = pair-wrong _ _ (c .before .before .size-state .ensures) (c .enum-told .given .1)
 
 size-pair-returns-2 : (t : ℕ) → size-pair-lts.Need-returns-2 (calls-size-pair t) (size-pair-at t) size-pair.Post
-size-pair-returns-2 t c = pair-two _ _ (c .before .before .before .before .before .before .size-state .ensures .0) _ _ _ _ _ (c .before .before .before .before .before .before .size-state .ensures .1) (c .before .before .before .before .left .given .1) (rw rest-is at (c .before .size-state2 .ensures .0)) (rw rest-is at (c .before .size-state2 .ensures .1)) (c .over-two .ensures)
+size-pair-returns-2 t c =
+    let first = c .before .before .before .before .before .before .size-state .ensures in
+    pair-two _ _ first _ _ _ (c .before .before .before .before .left .given .1) _ (c .before .size-state2 .ensures) _ (c .over-two .ensures)
 
 size-path-read-hours-requires : (t : ℕ) → size-path-lts.Need-read-hours-requires (calls-size-path t) (size-path-at t) size-path.Post
 size-path-read-hours-requires t c κs = search needs
@@ -240,7 +262,9 @@ size-path-returns : (t : ℕ) → size-path-lts.Need-returns (calls-size-path t)
 size-path-returns t c = path-wrong _ _ (c .before .before .read-hours .ensures) (c .enum-told .given .1)
 
 size-path-returns-2 : (t : ℕ) → size-path-lts.Need-returns-2 (calls-size-path t) (size-path-at t) size-path.Post
-size-path-returns-2 t c = path-some _ _ (c .before .before .before .before .read-hours .ensures) _ _ _ (c .before .before .enum-told2 .given .1) (c .before .after-two .ensures) (c .size-pair .ensures)
+size-path-returns-2 t c =
+    let hours = c .before .before .before .before .read-hours .ensures in
+    path-some _ _ hours _ _ _ (c .before .before .enum-told2 .given .1) (c .before .after-two .ensures) (c .size-pair .ensures)
 
 size-state-part-requires : (t : ℕ) → size-state-lts.Need-part-requires (calls-size-state t) (size-state-at t) size-state.Post
 size-state-part-requires t c κs = search needs
