@@ -115,3 +115,5 @@ pub line-read : (t : Text) (n : ℕ) (r : Size) → n ≡ spanOf space t
     → r ≡ sizeOf (state read (take n t) (headOf (take n t)) (tokens (drop n t))) → r ≡ sizeOf (read (parts space t))
 unfolding headD
 line-read t n r e q = q ∙ rw (parts-first space t, ← e, read-next)
+
+pub ruleset text-laws = (text-other, text-wrong, text-read, text-longer)

@@ -1,7 +1,8 @@
+-- `survey` meets its contract, by the laws of `TextLaw`. Assumes nothing.
 use native.Mathlib.Omega.{arith}
 use mathlib.Core.Path.{sym}
 use lib.Seq.{length-take-le}
-use Rattle.survey.proofs.TextLaw.{text-other, text-wrong, text-read, text-longer}
+use Rattle.survey.proofs.TextLaw.{text-laws}
 use borrow.Author.Needs.{needs}
 use Rattle.survey.proofs.survey.Statement.{statement}
 use Rattle.survey.proofs.survey.Tie as tie
@@ -13,7 +14,7 @@ sub-if1 : tie.Need-sub-if1
 sub-if1 c = search needs
 
 returns : tie.Need-returns
-returns c = text-other _ _ (c .before .span .ensures .0) (c .if1 .taken)
+returns c = search (needs, text-laws)
 
 slice-aggregate-size-line : tie.Need-slice-aggregate-size-line
 slice-aggregate-size-line c = sym (length-take-le _ _ (omega arith))
@@ -28,13 +29,13 @@ enum-known-left : tie.Need-enum-known-left
 enum-known-left c = search needs
 
 returns-2 : tie.Need-returns-2
-returns-2 c = text-wrong _ _ (c .before .before .before .before .before .span .ensures .0) (c .before .before .before .before .if1 .left) _ (c .before .before .size-line .ensures) (c .enum-told .given .1)
+returns-2 c = search (needs, text-laws)
 
 returns-3 : tie.Need-returns-3
-returns-3 c = text-read _ _ (c .before .before .before .before .before .before .before .span .ensures .0) (c .before .before .before .before .before .before .if1 .left) _ (c .before .before .before .before .size-line .ensures) _ _ _ (c .before .before .left .given .1) (c .if2 .taken)
+returns-3 c = search (needs, text-laws)
 
 returns-4 : tie.Need-returns-4
-returns-4 c = text-longer _ _ (c .before .before .before .before .before .before .before .span .ensures .0) (c .before .before .before .before .before .before .if1 .left) _ (c .before .before .before .before .size-line .ensures) _ _ _ (c .before .before .left .given .1) (c .if2 .left)
+returns-4 c = search (needs, text-laws)
 
 pub survey-spec : {M : Type 1} → statement M
 survey-spec =
