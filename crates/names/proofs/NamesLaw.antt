@@ -1,16 +1,17 @@
 -- The names of a text, one by one. Assumes nothing.
 use mathlib.Core.Path.{_≡_, refl, sym, ap, _∙_}
-use Prim.Native.Nat.{ℕ, zero, suc, _+_, _≤_, _<_}
+use Prim.Native.Nat.{ℕ, zero, suc, _+_, _-_, _≤_, _<_}
 use native.Mathlib.Omega.{arith}
 use mathlib.Core.Bool.{Bool, true, false, cond, not, _&&_, _||_}
 use mathlib.Core.List.{List, [], _∷_, headD, tail}
-use lib.ListN.{length, take, drop, getD}
+use lib.ListN.{length, take, drop, getD, length-drop}
 use lib.Dec.{leb, ltb, eqb}
-use borrow.Author.Tests.{lt-ltb, le-ltb, le-leb, lt-leb}
+use borrow.Author.Tests.{lt-ltb, le-ltb, le-leb, lt-leb, not-true, not-false}
 use Rattle.csl.specs.Text.{Text, bytes, same, among, every}
 use Rattle.csl.specs.Line.{comma, fieldsOf}
 use Rattle.csl.specs.Labels.{isLetter, isWord, isName, noRepeat, placeOf}
 use Rattle.texts.specs.Span.{spanOf}
+use Rattle.texts.specs.Cut.{rest-is}
 use Rattle.names.specs.Names.{namesFrom, commasIn, commaMore, headLine, fields-from, among-is, commas-names}
 
 -- bytes
@@ -90,14 +91,35 @@ module _ (t : Text) (n : ℕ) (e : n ≡ spanOf comma (drop 1 t)) (l : 0 < lengt
       among-is (namesFrom (drop n (drop 1 t))) (take n (drop 1 t))
       ∙ rw (← h, k) (ap (λ x. ltb p x) (ap (λ x. length (namesFrom (drop x (drop 1 t)))) e ∙ commas-names (drop 1 t) ∙ ap (λ x. commasIn (drop x (drop 1 t))) (sym e)))
 
-  pub repeat-not : (p c : ℕ) → p ≡ placeOf (namesFrom (drop n (drop 1 t))) (take n (drop 1 t)) → c ≡ commasIn (drop n (drop 1 t)) → p < c → noRepeat (namesFrom t) ≡ false
+  repeat-not : (p c : ℕ) → p ≡ placeOf (namesFrom (drop n (drop 1 t))) (take n (drop 1 t)) → c ≡ commasIn (drop n (drop 1 t)) → p < c
+      → noRepeat (namesFrom t) ≡ false
   unfolding noRepeat
   repeat-not p c h k q = rw (names-more, again p c h k, lt-ltb p c q)
 
-  pub repeat-more : (p c : ℕ) → p ≡ placeOf (namesFrom (drop n (drop 1 t))) (take n (drop 1 t)) → c ≡ commasIn (drop n (drop 1 t)) → c ≤ p
+  repeat-more : (p c : ℕ) → p ≡ placeOf (namesFrom (drop n (drop 1 t))) (take n (drop 1 t)) → c ≡ commasIn (drop n (drop 1 t)) → c ≤ p
       → noRepeat (namesFrom t) ≡ noRepeat (namesFrom (drop n (drop 1 t)))
   unfolding noRepeat
   repeat-more p c h k q = rw (names-more, again p c h k, le-ltb p c q)
+
+-- the rest of a text from a place on, as it is cut
+abbrev pub rest : Text → ℕ → Text
+rest t k = take (length t - k) (drop k t)
+
+-- and so from the calls: the first name has n bytes, p is its place among those behind it, and c is how many they are
+module _ (t : Text) (n : ℕ) (cut : n ≡ spanOf comma (rest t 1)) (some : 0 < length t) where
+  pub repeat-less : length (rest (rest t 1) n) < length t
+  repeat-less = rw (rest-is, rest-is) (omega (arith, length-drop n (drop 1 t), length-drop 1 t))
+
+  module _ (p c : ℕ) (at : p ≡ placeOf (namesFrom (rest (rest t 1) n)) (take n (rest t 1))) (k : c ≡ commasIn (rest (rest t 1) n)) {all : Bool}
+      (left : noRepeat (namesFrom t) ≡ all) where
+    pub repeat-found : p < c → false ≡ all
+    repeat-found l =
+        sym (repeat-not t n (rw rest-is at cut) some p c (rw (rest-is, rest-is) at at) (rw (rest-is, rest-is) at k) l) ∙ left
+
+    pub repeat-behind : c ≤ p → noRepeat (namesFrom (rest (rest t 1) n)) ≡ all
+    repeat-behind l =
+        rw (rest-is, rest-is)
+        (sym (repeat-more t n (rw rest-is at cut) some p c (rw (rest-is, rest-is) at at) (rw (rest-is, rest-is) at k) l) ∙ left)
 
 module _ (t : Text) (h : length t ≤ 0) where
   pub place-end : (w : Text) (k : ℕ) → k ≡ k + placeOf (namesFrom t) w
@@ -108,9 +130,11 @@ module _ (t : Text) (h : length t ≤ 0) where
   unfolding every
   good-end = rw (names-end t h)
 
-  pub repeat-end : noRepeat (namesFrom t) ≡ true
+  pub repeat-end : {all : Bool} → noRepeat (namesFrom t) ≡ all → true ≡ all
   unfolding noRepeat
-  repeat-end = rw (names-end t h)
+  repeat-end left = sym (rw (names-end t h)) ∙ left
+
+pub ruleset repeat-laws = (repeat-less, repeat-found, repeat-behind, repeat-end)
 
 -- a word by its tests, in the code's order
 module _ (w : Text) where
@@ -162,19 +186,31 @@ module _ (line : Text) (n : ℕ) (e : n ≡ spanOf comma line) where
   head-count : length (namesFrom (drop n line)) ≡ commasIn (drop n line)
   head-count = rw e (commas-names line)
 
-  pub head-other : same (take n line) (bytes "state") ≡ false → headLine line ≡ false
-  unfolding headLine headD
-  head-other h = rw (line-fields, h)
-
-  module _ (c : ℕ) (k : c ≡ commasIn (drop n line)) (h : same (take n line) (bytes "state") ≡ true) where
-    pub head-many : 16 < c → headLine line ≡ false
+  -- what the calls answer, in the code's order: whether the first field is `state`, the commas, whether the names are good, and that none repeats
+  module _ {state : Bool} (first : state ≡ same (take n line) (bytes "state")) where
+    pub head-other : not state ≡ true → false ≡ headLine line
     unfolding headLine headD
-    head-many l = rw (line-fields, h, head-count, ← k, lt-leb c 16 l)
+    head-other h = rw (line-fields, ← first, not-true state h)
 
-    pub head-bad : c ≤ 16 → every isName (namesFrom (drop n line)) ≡ false → headLine line ≡ false
-    unfolding headLine headD
-    head-bad l g = rw (line-fields, h, head-count, ← k, le-leb c 16 l, g)
+    module _ (is-state : not state ≡ false) (c : ℕ) (commas : c ≡ commasIn (rest line n)) where
+      counted : length (namesFrom (drop n line)) ≡ c
+      counted = head-count ∙ sym (rw rest-is at commas)
 
-    pub head-last : c ≤ 16 → every isName (namesFrom (drop n line)) ≡ true → headLine line ≡ noRepeat (namesFrom (drop n line))
-    unfolding headLine headD
-    head-last l g = rw (line-fields, h, head-count, ← k, le-leb c 16 l, g)
+      pub head-many : 16 < c → false ≡ headLine line
+      unfolding headLine headD
+      head-many l = rw (line-fields, ← first, not-false state is-state, counted, lt-leb c 16 l)
+
+      module _ (few : c ≤ 16) {good : Bool} (names : good ≡ every isName (namesFrom (rest line n))) where
+        named : every isName (namesFrom (drop n line)) ≡ good
+        named = sym (rw rest-is at names)
+
+        pub head-bad : not good ≡ true → false ≡ headLine line
+        unfolding headLine headD
+        head-bad h = rw (line-fields, ← first, not-false state is-state, counted, le-leb c 16 few, named, not-true good h)
+
+        pub head-last : not good ≡ false → {r : Bool} → r ≡ noRepeat (namesFrom (rest line n)) → r ≡ headLine line
+        unfolding headLine headD
+        head-last h q =
+            rw rest-is at q ∙ rw (line-fields, ← first, not-false state is-state, counted, le-leb c 16 few, named, not-false good h)
+
+pub ruleset head-laws = (head-other, head-many, head-bad, head-last)

@@ -1,9 +1,8 @@
-use borrow.Author.Tests.{not-true, not-false}
+-- `head` meets its contract, by the laws of `NamesLaw`. Assumes nothing.
 use native.Mathlib.Omega.{arith}
-use mathlib.Core.Path.{sym, _∙_}
+use mathlib.Core.Path.{sym}
 use lib.Seq.{length-take-le}
-use Rattle.texts.specs.Cut.{rest-is}
-use Rattle.names.proofs.NamesLaw.{head-other, head-many, head-bad, head-last}
+use Rattle.names.proofs.NamesLaw.{head-laws}
 use borrow.Author.Needs.{needs}
 use Rattle.names.proofs.head.Statement.{statement}
 use Rattle.names.proofs.head.Tie as tie
@@ -21,7 +20,7 @@ same-requires : tie.Need-same-requires
 same-requires c κs = search needs
 
 returns : tie.Need-returns
-returns c = sym (head-other _ _ (c .before .before .before .before .span .ensures .0) (sym (c .before .same .ensures) ∙ not-true _ (c .if1 .taken)))
+returns c = search (needs, head-laws)
 
 sub-s : tie.Need-sub-s
 sub-s c = search needs
@@ -36,25 +35,19 @@ commas-requires : tie.Need-commas-requires
 commas-requires c κs = search needs
 
 returns-2 : tie.Need-returns-2
-returns-2 c =
-    sym (head-many _ _ (c .before .before .before .before .before .before .before .span .ensures .0) _ (rw rest-is at (c .before .commas .ensures .0)) (sym (c .before .before .before .before .same .ensures) ∙ not-false _ (c .before .before .before .if1 .left)) (omega arith))
+returns-2 c = search (needs, head-laws)
 
 good-names-requires : tie.Need-good-names-requires
 good-names-requires c κs = search needs
 
 returns-3 : tie.Need-returns-3
-returns-3 c =
-    sym (head-bad _ _ (c .before .before .before .before .before .before .before .before .before .span .ensures .0) _ (rw rest-is at (c .before .before .before .commas .ensures .0)) (sym (c .before .before .before .before .before .before .same .ensures) ∙ not-false _ (c .before .before .before .before .before .if1 .left)) (omega arith)
-    (sym (rw rest-is at (c .before .good-names .ensures)) ∙ not-true _ (c .if3 .taken)))
+returns-3 c = search (needs, head-laws)
 
 no-repeat-requires : tie.Need-no-repeat-requires
 no-repeat-requires c κs = search needs
 
 returns-4 : tie.Need-returns-4
-returns-4 c =
-    rw rest-is at (c .no-repeat .ensures)
-    ∙ sym (head-last _ _ (c .before .before .before .before .before .before .before .before .before .before .span .ensures .0) _ (rw rest-is at (c .before .before .before .before .commas .ensures .0)) (sym (c .before .before .before .before .before .before .before .same .ensures) ∙ not-false _ (c .before .before .before .before .before .before .if1 .left)) (omega arith)
-    (sym (rw rest-is at (c .before .before .good-names .ensures)) ∙ not-false _ (c .before .if3 .left)))
+returns-4 c = search (needs, head-laws)
 
 pub head-spec : {M : Type 1} → statement M
 head-spec =

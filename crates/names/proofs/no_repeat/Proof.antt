@@ -1,12 +1,12 @@
+-- `no_repeat` meets its contract. The invariant: what is left repeats a name just where the whole does. Assumes nothing.
 use borrow.Author.Needs.{needs}
 use native.Mathlib.Omega.{arith}
-use mathlib.Core.Path.{_≡_, sym, _∙_}
-use lib.ListN.{length, drop, length-drop}
+use mathlib.Core.Path.{_≡_, sym}
+use lib.ListN.{length}
 use lib.Seq.{length-take-le}
 use Rattle.csl.specs.Labels.{noRepeat}
-use Rattle.texts.specs.Cut.{rest-is}
 use Rattle.names.specs.Names.{namesFrom}
-use Rattle.names.proofs.NamesLaw.{repeat-end, repeat-not, repeat-more}
+use Rattle.names.proofs.NamesLaw.{repeat-laws}
 use Rattle.names.proofs.no_repeat.Statement.{statement}
 use Rattle.names.proofs.no_repeat.Tie as tie
 
@@ -50,21 +50,16 @@ commas-requires : tie.Need-commas-requires Inv-loop μ-loop
 commas-requires c κs = search needs
 
 returns : tie.Need-returns Inv-loop μ-loop
-returns c =
-    sym (repeat-not _ _ (rw rest-is at (c .before .before .before .before .before .span .ensures .0)) (omega arith) _ _ (rw (rest-is, rest-is) at (c .before .before .lookup .ensures)) (rw (rest-is, rest-is) at (c .before .commas .ensures .0)) (omega arith))
-    ∙ c .before .before .before .before .before .before .before .before .loop .inv
+returns c = search (needs, repeat-laws)
 
 loop-less : tie.Need-loop-less Inv-loop μ-loop
-loop-less c = rw (rest-is, rest-is) (omega (arith, length-drop (c .before .before .before .before .before .span .result) (drop 1 (c .before .before .before .before .before .before .before .before .loop .t .now)), length-drop 1 (c .before .before .before .before .before .before .before .before .loop .t .now)))
+loop-less c = search (needs, repeat-laws)
 
 loop-again : tie.Need-loop-again Inv-loop μ-loop
-loop-again c =
-    rw (rest-is, rest-is)
-    (sym (repeat-more _ _ (rw rest-is at (c .before .before .before .before .before .span .ensures .0)) (omega arith) _ _ (rw (rest-is, rest-is) at (c .before .before .lookup .ensures)) (rw (rest-is, rest-is) at (c .before .commas .ensures .0)) (omega arith))
-    ∙ c .before .before .before .before .before .before .before .before .loop .inv)
+loop-again c = search (needs, repeat-laws)
 
 returns-2 : tie.Need-returns-2 Inv-loop μ-loop
-returns-2 c = sym (repeat-end _ (omega arith)) ∙ c .before .loop .inv
+returns-2 c = search (needs, repeat-laws)
 
 pub no-repeat-spec : {M : Type 1} → statement M
 no-repeat-spec =
