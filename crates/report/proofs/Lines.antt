@@ -80,3 +80,5 @@ module _ (d : ℕ) (l u b : List ℕ) where
   pub lines-all : (i n : ℕ) {at r : ℕ} {old new : List ℕ} → i ≤ n → n ≤ i → Wrote at (rows i d l u b) old new r
       → Wrote at (rows n d l u b) old new r
   lines-all i n h k w = let e : i ≡ n = omega arith in rw e at w
+
+pub ruleset lines-laws = (lines-none, lines-room, lines-more, lines-all)

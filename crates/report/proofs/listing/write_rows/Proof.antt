@@ -6,7 +6,7 @@ use Prim.Native.Nat.{_≤_, _-_}
 use lib.ListN.{length}
 use Rattle.writer.specs.Place.{Wrote}
 use Rattle.report.specs.Listing.{rows}
-use Rattle.report.proofs.Lines.{lines-room, lines-none, lines-more, lines-all}
+use Rattle.report.proofs.Lines.{lines-laws, lines-more}
 use Rattle.report.proofs.listing.write_rows.Statement.{statement}
 use Rattle.report.proofs.listing.write_rows.Tie as tie
 
@@ -17,7 +17,7 @@ abbrev μ-loop : tie.MeasureT-loop
 μ-loop out₀ at states depth lower upper verdicts next₀ i₀ out next i = states - i
 
 loop-holds : tie.Need-loop-holds Inv-loop μ-loop
-loop-holds c = (search needs, refl, lines-none _ _ _ _ _ _)
+loop-holds c = search (needs, lines-laws)
 
 mul-write-row : tie.Need-mul-write-row Inv-loop μ-loop
 mul-write-row c = search needs
@@ -38,8 +38,7 @@ from-byte-requires : tie.Need-from-byte-requires Inv-loop μ-loop
 from-byte-requires c κs = search needs
 
 write-row-requires : tie.Need-write-row-requires Inv-loop μ-loop
-write-row-requires c κs = lines-room _ _ _ _ (c .before .before .before .before .before .before .loop .i) (c .before .before .before .before .before .before .before .before .before .before .before .args .states) _ (c .from-byte .ensures) (omega arith) (omega arith)
-    (c .before .before .before .before .before .before .loop .inv .2) (c .before .before .before .before .before .before .loop .inv .1)
+write-row-requires c κs = search (needs, lines-laws)
 
 add-i : tie.Need-add-i Inv-loop μ-loop
 add-i c = search needs
@@ -48,18 +47,18 @@ loop-less : tie.Need-loop-less Inv-loop μ-loop
 loop-less c = search needs
 
 loop-again : tie.Need-loop-again Inv-loop μ-loop
-loop-again c = (
-  search needs,
-  search needs,
-  lines-more _ _ _ _ (c .before .before .before .before .before .before .before .before .before .loop .i) (c .before .before .before .before .before .before .before .before .before .before .before .before .before .before .args .states) _ (c .before .before .before .from-byte .ensures) (omega arith) (omega arith)
-      (c .before .before .before .before .before .before .before .before .before .loop .inv .2) (c .before .before .write-row .ensures),
-)
+loop-again c =
+    let turn = c .before .before .before .before .before .before .before .before .before in
+    let states = turn .before .before .before .before .before .args .states in
+    let verdict = c .before .before .before .from-byte .ensures in
+    let wrote = turn .loop .inv .2 in
+    (search needs, search needs, lines-more _ _ _ _ (turn .loop .i) states _ verdict (omega arith) (omega arith) wrote (c .before .before .write-row .ensures))
 
 same-length : tie.Need-same-length Inv-loop μ-loop
 same-length c = search needs
 
 returns : tie.Need-returns Inv-loop μ-loop
-returns c = lines-all _ _ _ _ (c .before .loop .i) _ (omega arith) (omega arith) (c .before .loop .inv .2)
+returns c = search (needs, lines-laws)
 
 pub write-rows-spec : {M : Type 1} → statement M
 write-rows-spec =
