@@ -1,5 +1,5 @@
 -- Filling a row from its first byte on. Assumes nothing.
-use mathlib.Core.Path.{_≡_, refl, _∙_}
+use mathlib.Core.Path.{_≡_, refl, ap, _∙_}
 use mathlib.Core.List.{List}
 use mathlib.Core.Bool.{Bool, true, false}
 use Prim.Native.Nat.{ℕ, _+_, _*_, _≤_, _<_}
@@ -11,7 +11,7 @@ use lib.Dec.{ltb}
 use borrow.Author.Count.{below-more}
 use borrow.Author.Tests.{ltb-true, ltb-false}
 use Rattle.marks.specs.Row.{Filled}
-use Rattle.marks.specs.Byte.{joinedByte}
+use Rattle.marks.specs.Byte.{negatedByte, joinedByte}
 use Rattle.marks.specs.Shown.{row-apart}
 
 -- nothing yet, one byte more, the whole row
@@ -41,3 +41,9 @@ row-kept {f} {old} {l} n a b i h r = go (ltb a b) refl where
 -- the bytes of two operands that are as they were
 pub joined-kept : {a b x y : ℕ} → a ≡ x → b ≡ y → joinedByte a b ≡ joinedByte x y
 joined-kept p q = rw (p, q)
+
+-- one byte more of `!` of a row, which may be the row that is filled
+pub negate-more : {old l : List ℕ} {b : ℕ} (n operand slot i : ℕ) → Filled (λ k. negatedByte (getD old (operand * n + k) 0)) (slot * n) i old l → i < n
+    → slot * n + i < length l → b ≡ negatedByte (getD l (operand * n + i) 0)
+    → Filled (λ k. negatedByte (getD old (operand * n + k) 0)) (slot * n) (i + 1) old (set l (slot * n + i) b)
+negate-more n operand slot i r h k e = row-more r k (e ∙ ap negatedByte (row-kept n operand slot i h r))

@@ -1,12 +1,11 @@
 -- `negate_row` meets its contract. The invariant: the first s bytes of the row are filled; the operand's next byte is as it was. Assumes nothing.
 use borrow.Author.Needs.{needs}
 use native.Mathlib.Omega.{arith}
-use mathlib.Core.Path.{ap, _∙_}
 use Prim.Native.Nat.{_≤_, _+_, _*_, _-_}
 use lib.ListN.{getD}
 use Rattle.marks.specs.Row.{Filled}
 use Rattle.marks.specs.Byte.{negatedByte}
-use Rattle.marks.proofs.Filling.{row-none, row-more, row-done, row-kept}
+use Rattle.marks.proofs.Filling.{row-none, negate-more, row-done}
 use Rattle.marks.proofs.row.negate_row.Statement.{statement}
 use Rattle.marks.proofs.row.negate_row.Tie as tie
 
@@ -47,7 +46,10 @@ loop-less : tie.Need-loop-less Inv-loop μ-loop
 loop-less c = search needs
 
 loop-again : tie.Need-loop-again Inv-loop μ-loop
-loop-again c = (omega arith, row-more (c .before .before .before .loop .inv .1) (omega arith) (c .of-negation .ensures ∙ ap negatedByte (row-kept (c .before .before .before .before .before .args .n) (c .before .before .before .before .before .args .operand) (c .before .before .before .before .before .args .slot) _ (omega arith) (c .before .before .before .loop .inv .1))))
+loop-again c =
+    let a = c .before .before .before .before .before .args in
+    let filled = c .before .before .before .loop .inv .1 in
+    (omega arith, negate-more (a .n) (a .operand) (a .slot) _ filled (omega arith) (omega arith) (c .of-negation .ensures))
 
 same-length : tie.Need-same-length Inv-loop μ-loop
 same-length c = search needs
