@@ -43,7 +43,8 @@ pub joined-kept : {a b x y : ℕ} → a ≡ x → b ≡ y → joinedByte a b ≡
 joined-kept p q = rw (p, q)
 
 -- one byte more of `!` of a row, which may be the row that is filled
-pub negate-more : {old l : List ℕ} {b : ℕ} (n operand slot i : ℕ) → Filled (λ k. negatedByte (getD old (operand * n + k) 0)) (slot * n) i old l → i < n
+pub negate-more : {old l : List ℕ} {b : ℕ} (n operand slot i : ℕ)
+    → Filled (λ k. negatedByte (getD old (operand * n + k) 0)) (slot * n) i old l → i < n
     → slot * n + i < length l → b ≡ negatedByte (getD l (operand * n + i) 0)
     → Filled (λ k. negatedByte (getD old (operand * n + k) 0)) (slot * n) (i + 1) old (set l (slot * n + i) b)
 negate-more n operand slot i r h k e = row-more r k (e ∙ ap negatedByte (row-kept n operand slot i h r))

@@ -33,7 +33,8 @@ module _ (w : Text) where
   unfolding headOf
   head-bang a b d = rw (a, b, d)
 
-  pub head-ampersand : same w (bytes "tt") ≡ false → isWord w ≡ false → same w (bytes "!") ≡ false → same w (bytes "&") ≡ true → ampersand ≡ headOf w
+  pub head-ampersand : same w (bytes "tt") ≡ false → isWord w ≡ false → same w (bytes "!") ≡ false → same w (bytes "&") ≡ true
+      → ampersand ≡ headOf w
   unfolding headOf
   head-ampersand a b d e = rw (a, b, d, e)
 

@@ -76,7 +76,7 @@ decide-negate-row-requires t c κs =
     let kind = c .before .before .before .before .before .before .before .before .before in
     let asked = kind .before .before .before .before .before .before .before .pre .1 in
     let operand = c .before .before .before .before .before .decide .ensures in
-    may-negate (kind .before .before .before .if1 .left) (kind .kind2 .given .1) operand asked
+    may-negate asked (kind .before .before .before .if1 .left) (kind .kind2 .given .1) operand
 
 decide-enum-known-kind-3 : (t : ℕ) → decide-lts.Need-enum-known-kind-3 (calls-decide t) (decide-at t) decide.Post
 decide-enum-known-kind-3 t c = search needs
@@ -94,11 +94,7 @@ decide-add-decide : (t : ℕ) → decide-lts.Need-add-decide (calls-decide t) (d
 decide-add-decide t c = omega arith
 
 decide-decide-requires-3 : (t : ℕ) → decide-lts.Need-decide-requires-3 (calls-decide t) (decide-at t) decide.Post
-decide-decide-requires-3 t c κs =
-    let kind = c .before .before .before .before .before .before .before .before .before .before in
-    let start = kind .before .before .before .before .before .before .before .pre in
-    let first = c .before .before .before .before .before .before .decide2 .ensures in
-    (omega (arith, start .0), may-second (kind .before .before .before .if1 .left) (kind .kind3 .given .1) first (start .1))
+decide-decide-requires-3 t c κs = search (needs, may-second)
 
 decide-add-join-rows : (t : ℕ) → decide-lts.Need-add-join-rows (calls-decide t) (decide-at t) decide.Post
 decide-add-join-rows t c = omega arith
@@ -109,7 +105,7 @@ decide-join-rows-requires t c κs =
     let first = second .before .before .before .before .before .before .before in
     let kind = first .before .before .before .before in
     let asked = kind .before .before .before .before .before .before .before .pre .1 in
-    may-join (kind .before .before .before .if1 .left) (kind .kind3 .given .1) (first .decide2 .ensures) (second .decide3 .ensures) asked
+    may-join asked (kind .before .before .before .if1 .left) (kind .kind3 .given .1) (first .decide2 .ensures) (second .decide3 .ensures)
 
 decide-enum-known-kind-4 : (t : ℕ) → decide-lts.Need-enum-known-kind-4 (calls-decide t) (decide-at t) decide.Post
 decide-enum-known-kind-4 t c = search needs
@@ -127,11 +123,7 @@ decide-add-decide-2 : (t : ℕ) → decide-lts.Need-add-decide-2 (calls-decide t
 decide-add-decide-2 t c = omega arith
 
 decide-decide-requires-5 : (t : ℕ) → decide-lts.Need-decide-requires-5 (calls-decide t) (decide-at t) decide.Post
-decide-decide-requires-5 t c κs =
-    let kind = c .before .before .before .before .before .before .before .before .before .before in
-    let start = kind .before .before .before .before .before .before .before .pre in
-    let first = c .before .before .before .before .before .before .decide4 .ensures in
-    (omega (arith, start .0), may-right (kind .before .before .before .if1 .left) (kind .kind4 .given .1) first (start .1))
+decide-decide-requires-5 t c κs = search (needs, may-right)
 
 decide-until-node-requires : (t : ℕ) → decide-lts.Need-until-node-requires (calls-decide t) (decide-at t) decide.Post
 decide-until-node-requires t c κs =
@@ -139,7 +131,7 @@ decide-until-node-requires t c κs =
     let first = second .before .before .before .before .before .before .before in
     let kind = first .before .before .before .before in
     let asked = kind .before .before .before .before .before .before .before .pre .1 in
-    may-until (kind .before .before .before .if1 .left) (kind .kind4 .given .1) (first .decide4 .ensures) (second .decide5 .ensures) asked
+    may-until asked (kind .before .before .before .if1 .left) (kind .kind4 .given .1) (first .decide4 .ensures) (second .decide5 .ensures)
 
 decide-same-length : (t : ℕ) → decide-lts.Need-same-length (calls-decide t) (decide-at t) decide.Post
 decide-same-length t c = search needs
@@ -176,8 +168,8 @@ decide-returns-5 t c =
     let second = c .before .before .before .before .before .before .before .before in
     let first = second .before .before .before .before .before .before .before in
     let kind = first .before .before .before .before in
-    let joined = c .before .before .join-rows .ensures in
-    leaves-both (kind .before .before .before .if1 .left) (kind .kind3 .given .1) (first .decide2 .ensures) (second .decide3 .ensures) joined
+    let some = kind .before .before .before .if1 .left in
+    leaves-both some (first .decide2 .ensures) (second .decide3 .ensures) (kind .kind3 .given .1) (c .before .before .join-rows .ensures)
 
 decide-same-length-8 : (t : ℕ) → decide-lts.Need-same-length-8 (calls-decide t) (decide-at t) decide.Post
 decide-same-length-8 t c = search needs
@@ -190,8 +182,9 @@ decide-returns-6 t c =
     let second = c .before .before .before .before .before .before .before .before .before .before .before in
     let first = second .before .before .before .before .before .before .before in
     let kind = first .before .before .before .before in
+    let some = kind .before .before .before .if1 .left in
     let judged = c .before .before .before .before .until-node .ensures in
-    leaves-until (kind .before .before .before .if1 .left) (kind .kind4 .given .1) (first .decide4 .ensures) (second .decide5 .ensures) (judged .0) (judged .1)
+    leaves-until some (first .decide4 .ensures) (second .decide5 .ensures) (kind .kind4 .given .1) (judged .0) (judged .1)
 
 pub +decide-spec : {M : Type 1} → statement M
 +decide-spec = close μ-decide λ t. decide-lts.spec (calls-decide t)

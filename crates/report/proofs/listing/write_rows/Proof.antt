@@ -1,7 +1,7 @@
 -- `write_rows` meets its contract. The invariant: the lines of the first i states are written. Assumes nothing.
 use borrow.Author.Needs.{needs}
 use native.Mathlib.Omega.{arith}
-use mathlib.Core.Path.{_≡_, refl}
+use mathlib.Core.Path.{_≡_}
 use Prim.Native.Nat.{_≤_, _-_}
 use lib.ListN.{length}
 use Rattle.writer.specs.Place.{Wrote}
@@ -11,7 +11,8 @@ use Rattle.report.proofs.listing.write_rows.Statement.{statement}
 use Rattle.report.proofs.listing.write_rows.Tie as tie
 
 abbrev Inv-loop : tie.InvT-loop
-Inv-loop out₀ at states depth lower upper verdicts next₀ i₀ out next i = (i ≤ states) × (length out ≡ length out₀) × Wrote at (rows i depth lower upper verdicts) out₀ out next
+Inv-loop out₀ at states depth lower upper verdicts next₀ i₀ out next i =
+    (i ≤ states) × (length out ≡ length out₀) × Wrote at (rows i depth lower upper verdicts) out₀ out next
 
 abbrev μ-loop : tie.MeasureT-loop
 μ-loop out₀ at states depth lower upper verdicts next₀ i₀ out next i = states - i
