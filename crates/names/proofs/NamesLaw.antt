@@ -212,5 +212,3 @@ module _ (line : Text) (n : ℕ) (e : n ≡ spanOf comma line) where
         unfolding headLine headD
         head-last h q =
             rw rest-is at q ∙ rw (line-fields, ← first, not-false state is-state, counted, le-leb c 16 few, named, not-false good h)
-
-pub ruleset head-laws = (head-other, head-many, head-bad, head-last)

@@ -2,7 +2,7 @@
 use native.Mathlib.Omega.{arith}
 use mathlib.Core.Path.{sym}
 use lib.Seq.{length-take-le}
-use Rattle.names.proofs.NamesLaw.{head-laws}
+use Rattle.names.proofs.NamesLaw.{head-other, head-many, head-bad, head-last}
 use borrow.Author.Needs.{needs}
 use Rattle.names.proofs.head.Statement.{statement}
 use Rattle.names.proofs.head.Tie as tie
@@ -20,7 +20,7 @@ same-requires : tie.Need-same-requires
 same-requires c κs = search needs
 
 returns : tie.Need-returns
-returns c = search (needs, head-laws)
+returns c = search (needs, head-other)
 
 sub-s : tie.Need-sub-s
 sub-s c = search needs
@@ -35,19 +35,19 @@ commas-requires : tie.Need-commas-requires
 commas-requires c κs = search needs
 
 returns-2 : tie.Need-returns-2
-returns-2 c = search (needs, head-laws)
+returns-2 c = search (needs, head-many)
 
 good-names-requires : tie.Need-good-names-requires
 good-names-requires c κs = search needs
 
 returns-3 : tie.Need-returns-3
-returns-3 c = search (needs, head-laws)
+returns-3 c = search (needs, head-bad)
 
 no-repeat-requires : tie.Need-no-repeat-requires
 no-repeat-requires c κs = search needs
 
 returns-4 : tie.Need-returns-4
-returns-4 c = search (needs, head-laws)
+returns-4 c = search (needs, head-last)
 
 pub head-spec : {M : Type 1} → statement M
 head-spec =
