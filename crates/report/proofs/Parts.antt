@@ -11,7 +11,7 @@ use Rattle.csl.specs.Report.{decimal, verdictWord, rowText}
 use Rattle.writer.specs.Place.{Room, Wrote}
 use Rattle.writer.specs.Writing.{written-length, wrote-more}
 
--- what is written into has no more bytes than it had
+-- writing leaves as many bytes as there were
 wrote-long : {at next : ℕ} {text : Text} {old new : List ℕ} → Room at text old → Wrote at text old new next → length new ≡ length old
 wrote-long {at} {text = text} {old = old} room w = ap length (w .holds) ∙ written-length at text old room
 
