@@ -15,7 +15,7 @@ use Rattle.csl.specs.Grammar.{readFormula}
 use Rattle.texts.specs.Span.{spanOf}
 use Rattle.survey.specs.Size.{extentOf}
 use Rattle.survey.specs.declared.Extent.{Extent}
-use Rattle.survey.proofs.TextLaw.{text-spells}
+use Rattle.survey.specs.TextLaw.{text-spells}
 use Rattle.store.specs.declared.Store.{Store}
 use Rattle.formula.specs.Listed.{empty, storeOf, stored}
 use Rattle.formula.specs.Listing.{laid}

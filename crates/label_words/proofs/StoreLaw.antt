@@ -24,10 +24,10 @@ use Rattle.fields.specs.Lines.{linesPass, nextLine, lines-are, lines-end, pass-
 use Rattle.fields.specs.Places.{drop-here, drop-none}
 use Rattle.numbers.specs.Table.{Table, table-none, table-more, table-done}
 use Rattle.labels.specs.Row.{rowAt, RowFits}
-use Rattle.labels.proofs.RowsLaw.{Told, told, untold}
+use Rattle.labels.specs.RowsLaw.{Told, told, untold}
 use Rattle.label_words.specs.Left.{marksLeft, fieldsLeft}
 use Rattle.label_words.specs.Words.{marksWord, wordOf}
-use Rattle.labels.proofs.RowLaw.{row-bare, row-tail}
+use Rattle.labels.specs.RowLaw.{row-bare, row-tail}
 
 -- the marks of a line that was read, behind its number
 line-marks : (names : ℕ) (t : Text) (v u : ℕ) → rowAt names t ≡ Value v u → marksLeft names (drop (u - 2 * names) t) ≡ true

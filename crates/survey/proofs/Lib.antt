@@ -1,4 +1,3 @@
 pub mod FitsLaw
 pub mod PairLaw
 pub mod HeadedLaw
-pub mod TextLaw

@@ -6,7 +6,7 @@ use mathlib.Core.Bool.{true}
 use lib.ListN.{length, length-drop}
 use Rattle.texts.specs.Cut.{rest-is}
 use Rattle.labels.specs.Facts.{rowsAt}
-use Rattle.labels.proofs.RowsLaw.{rows-end, rows-bad, rows-more}
+use Rattle.labels.specs.RowsLaw.{rows-end, rows-bad, rows-more}
 use Rattle.labels.proofs.count_rows.Statement.{statement}
 use Rattle.labels.proofs.count_rows.Tie as tie
 

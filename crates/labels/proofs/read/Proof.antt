@@ -2,7 +2,7 @@ use native.Mathlib.Omega.{arith}
 use mathlib.Core.Path.{sym, _∙_}
 use lib.Seq.{length-take-le}
 use Rattle.texts.specs.Cut.{rest-is}
-use Rattle.labels.proofs.RowsLaw.{facts-from, facts-unended}
+use Rattle.labels.specs.RowsLaw.{facts-from, facts-unended}
 use borrow.Author.Needs.{needs}
 use Rattle.labels.proofs.read.Statement.{statement}
 use Rattle.labels.proofs.read.Tie as tie

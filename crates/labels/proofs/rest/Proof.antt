@@ -1,6 +1,6 @@
 use native.Mathlib.Omega.{arith}
 use Rattle.texts.specs.Cut.{rest-is}
-use Rattle.labels.proofs.RowLaw.{rest-bad, rest-read}
+use Rattle.labels.specs.RowLaw.{rest-bad, rest-read}
 use borrow.Author.Needs.{needs}
 use Rattle.labels.proofs.rest.Statement.{statement}
 use Rattle.labels.proofs.rest.Tie as tie

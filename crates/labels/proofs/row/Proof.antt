@@ -1,6 +1,6 @@
 use native.Mathlib.Omega.{arith}
 use mathlib.Core.Path.{sym, _∙_}
-use Rattle.labels.proofs.RowLaw.{row-zero, row-none, row-some, row-fits}
+use Rattle.labels.specs.RowLaw.{row-zero, row-none, row-some, row-fits}
 use borrow.Author.Needs.{needs}
 use Rattle.labels.proofs.row.Statement.{statement}
 use Rattle.labels.proofs.row.Tie as tie

@@ -1,4 +1,4 @@
-use Rattle.labels.proofs.RowsLaw.{unended-is}
+use Rattle.labels.specs.RowsLaw.{unended-is}
 use Rattle.labels.proofs.unended.Statement.{statement}
 use Rattle.labels.proofs.unended.Tie as tie
 

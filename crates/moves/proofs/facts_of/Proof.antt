@@ -1,10 +1,6 @@
 use borrow.Author.Needs.{needs}
 use Rattle.moves.proofs.facts_of.Statement.{statement}
 use Rattle.moves.proofs.facts_of.Tie as tie
-use Rattle.moves.proofs.facts_of.Reads as reads
-use Rattle.moves.proofs.facts_of.Lts as lts
-use Rattle.moves.proofs.unended.Reads as unended-reads
-use Rattle.moves.proofs.unless.Reads as unless-reads
 
 enum-told : tie.Need-enum-told
 enum-told c = search needs

@@ -2,7 +2,7 @@ use native.Mathlib.Omega.{arith}
 use mathlib.Core.Path.{sym}
 use lib.Seq.{length-take-le}
 use Rattle.texts.specs.Cut.{rest-is}
-use Rattle.survey.proofs.TextLaw.{line-read}
+use Rattle.survey.specs.TextLaw.{line-read}
 use borrow.Author.Needs.{needs}
 use Rattle.survey.proofs.size_line.Statement.{statement}
 use Rattle.survey.proofs.size_line.Tie as tie

@@ -1,10 +1,6 @@
 use borrow.Author.Needs.{needs}
 use Rattle.moves.proofs.Tally.add.Statement.{statement}
 use Rattle.moves.proofs.Tally.add.Tie as tie
-use Rattle.moves.proofs.Tally.add.Reads as reads
-use Rattle.moves.proofs.Tally.add.Lts as lts
-use Rattle.moves.proofs.greater.Reads as greater-reads
-use Rattle.moves.proofs.run_sum.Reads as run-sum-reads
 
 mul-place : tie.Need-mul-place
 mul-place c = search needs

@@ -1,2 +1,0 @@
-pub mod RowLaw
-pub mod RowsLaw
