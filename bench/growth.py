@@ -1,5 +1,7 @@
-"""How a time grows with states, moves and depth: two fits by least squares."""
+"""How a time grows with states, moves and depth: two fits by least squares; and how many steps the engine makes."""
 from math import log
+
+PEAK = 1 << 40                          # the greatest weight of the engine
 
 
 def slope(points):
@@ -22,3 +24,13 @@ def two_terms(points):
     over = xx * zz - xz * xz
     a, b = (to_x * zz - to_z * xz) / over, (to_z * xx - to_x * xz) / over
     return a, b, max(abs(a * x + b * z - 1) for x, z in shares)
+
+
+def steps_made(depth):
+    """How many steps the engine makes for a whole load of this depth: those up to the last whose weight, rounded down, is above 0."""
+    load = (depth - 40) // 2
+    step, weight = load, PEAK
+    while step < depth and weight * load // (step + 1):
+        step += 1
+        weight = weight * load // step
+    return step + 1

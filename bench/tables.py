@@ -1,5 +1,5 @@
 """The figures of the bench as text."""
-from growth import slope, two_terms
+from growth import slope, steps_made, two_terms
 from measuring import balls_agree, doubles_agree, width
 
 HEADS = ["states", "moves", "depth", "doubles", "Arb", "Arb dot", "engine", "again", "reading", "job",
@@ -55,15 +55,25 @@ def growth_table(rows):
     return laid_out(GROWTH_HEADS, map(growth_line, rows))
 
 
+def fit_line(name, rows, others, unit, count):
+    """The two fits of a time: the slope over the rows, the two terms over the others too. `count` says how many of the unit a row has."""
+    power = slope([(row.sheet.moves * count(row), getattr(row, name)) for row in rows])
+    a, b, miss = two_terms([(row.sheet.states * count(row), row.sheet.moves * count(row), getattr(row, name)) for row in rows + others])
+    return (f"{name}: grows as (moves x {unit}) to the power {power:.3f}; "
+            f"{a:.2f} ns x states x {unit} + {b:.2f} ns x moves x {unit}, no row off by more than {100 * miss:.0f} %")
+
+
 def fit_lines(rows, others):
-    """The two fits of the doubles' and the engine's time: the slope over the rows, the two terms over the others too."""
-    lines = []
-    for name in ("doubles", "engine"):
-        power = slope([(row.sheet.moves * row.depth, getattr(row, name)) for row in rows])
-        a, b, miss = two_terms([(row.sheet.states * row.depth, row.sheet.moves * row.depth, getattr(row, name)) for row in rows + others])
-        lines.append(f"{name}: grows as (moves x depth) to the power {power:.3f}; "
-                     f"{a:.2f} ns x states x depth + {b:.2f} ns x moves x depth, no row off by more than {100 * miss:.0f} %")
-    return "\n".join(lines)
+    """How the doubles' and the engine's time grow with the depth, and the engine's with the steps that it makes of it."""
+    def depth(row):
+        return row.depth
+
+    def steps(row):
+        return steps_made(row.depth)
+    told = ", ".join(f"{steps_made(depth)} at depth {depth}" for depth in sorted({row.depth for row in rows}))
+    return "\n".join([fit_line("doubles", rows, others, "depth", depth), fit_line("engine", rows, others, "depth", depth),
+                      f"Steps that the engine makes, up to the last whose weight is above 0: {told}.",
+                      fit_line("engine", rows, others, "steps", steps)])
 
 
 def footprint_line(found):
