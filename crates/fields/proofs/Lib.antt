@@ -1,1 +1,2 @@
+-- Laws behind the proofs of `fields`.
 pub mod FieldLaw

@@ -1,3 +1,4 @@
+-- Laws behind the proofs of `formula`.
 pub mod PlaceLaw
 pub mod KindLaw
 pub mod NextLaw

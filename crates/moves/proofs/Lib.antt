@@ -1,3 +1,4 @@
+-- Laws behind the proofs of `moves`.
 pub mod LineLaw
 pub mod ReadLaw
 pub mod FactsLaw

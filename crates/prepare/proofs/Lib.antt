@@ -1,3 +1,4 @@
+-- Laws behind the proofs of `prepare`.
 pub mod PartLaw
 pub mod MarksLaw
 pub mod RatesLaw

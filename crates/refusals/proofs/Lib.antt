@@ -1,3 +1,4 @@
+-- Laws behind the proofs of `refusals`.
 pub mod FormulaLaw
 pub mod TestLaw
 pub mod ShortLaw

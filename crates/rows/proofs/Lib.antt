@@ -1,3 +1,4 @@
+-- Laws behind the proofs of `rows`.
 pub mod ClearLaw
 pub mod TallyLaw
 pub mod CloseLaw

@@ -1,2 +1,3 @@
+-- Laws behind the proofs of `sheet`.
 pub mod JudgeLaw
 pub mod CheckLaw

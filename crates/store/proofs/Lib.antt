@@ -1,1 +1,2 @@
+-- Laws behind the proofs of `store`.
 pub mod PassLaw

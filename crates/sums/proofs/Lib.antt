@@ -1,3 +1,4 @@
+-- Laws behind the proofs of `sums`.
 pub mod ChooseLaw
 pub mod BeginLaw
 pub mod AdvanceLaw

@@ -1,2 +1,3 @@
+-- Laws behind the proofs of `texts`.
 pub mod NumberLaw
 pub mod ScanLaw

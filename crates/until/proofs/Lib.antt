@@ -1,3 +1,4 @@
+-- Laws behind the proofs of `until`.
 pub mod LastLaw
 pub mod PointedLaw
 pub mod EndsLaw

@@ -1,3 +1,4 @@
+-- Laws behind the proofs of `weights`.
 pub mod StepLaw
 pub mod AddedLaw
 pub mod OverLaw

@@ -1,3 +1,4 @@
+-- `read_amount` meets its contract. Assumes nothing.
 use Rattle.chance.proofs.AmountLaw.{amount-bad, amount-short, amount-whole}
 use borrow.Author.Needs.{needs}
 use Rattle.chance.proofs.read_amount.Statement.{statement}

@@ -1,3 +1,4 @@
+-- `read_bound` meets its contract. Assumes nothing.
 use Rattle.tokens.specs.Behind.{behind-tail}
 use Rattle.chance.proofs.BoundLaw.{bound-unsigned, bound-open, bound-whole}
 use borrow.Author.Needs.{needs}

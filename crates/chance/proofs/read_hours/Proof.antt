@@ -1,3 +1,4 @@
+-- `read_hours` meets its contract. Assumes nothing.
 use Rattle.tokens.specs.Behind.{behind-tail}
 use Rattle.chance.proofs.BoundLaw.{hours-other, hours-then}
 use borrow.Author.Needs.{needs}

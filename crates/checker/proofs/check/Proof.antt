@@ -1,3 +1,4 @@
+-- `check` meets its contract. Assumes nothing.
 use mathlib.Core.Path.{sym, _∙_}
 use Rattle.checker.proofs.CheckLaw.{is-refused, may-measure, is-too-short, texts-passed, is-reported}
 use borrow.Author.Needs.{needs}

@@ -1,3 +1,4 @@
+-- `report` meets its contract. Assumes nothing.
 use native.Mathlib.Omega.{arith}
 use Rattle.checker.proofs.ReportLaw.{room, few-states, few-marks, words-long, vectors-long, marks-long}
 use Rattle.checker.proofs.ReportLaw.{decide-asked, conclude-asked, filled, report-laws}

@@ -1,3 +1,4 @@
+-- `conclude` meets its contract. Assumes nothing.
 use Rattle.conclude.specs.Shown.{ends-in, product-fits, loaded, until-concluded, plain-concluded}
 use borrow.Author.Needs.{needs}
 use Rattle.conclude.proofs.conclude.Statement.{statement}

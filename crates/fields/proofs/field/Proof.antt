@@ -1,3 +1,4 @@
+-- `field` meets its contract. Assumes nothing.
 use native.Mathlib.Omega.{arith}
 use mathlib.Core.Path.{sym, _∙_}
 use Rattle.fields.specs.Numbers.{reading-below}

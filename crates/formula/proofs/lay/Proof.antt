@@ -1,3 +1,4 @@
+-- `lay` meets its contract. Assumes nothing.
 use Rattle.csl.specs.Line.{comma, space, parts}
 use Rattle.tokens.specs.Behind.{partsBehind}
 use Rattle.formula.proofs.LayLaw.{Laying, lay-start, lay-on, lay-done}

@@ -1,3 +1,4 @@
+-- `left_behind` meets its contract. Assumes nothing.
 use mathlib.Core.Path.{refl}
 use Rattle.formula.proofs.NextLaw.{left-plain, left-chance}
 use borrow.Author.Needs.{needs}

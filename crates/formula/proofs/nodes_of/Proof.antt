@@ -1,3 +1,4 @@
+-- `nodes_of` meets its contract. Assumes nothing.
 use Rattle.formula.proofs.KindLaw.{nodes-wrong, nodes-read}
 use borrow.Author.Needs.{needs}
 use Rattle.formula.proofs.nodes_of.Statement.{statement}

@@ -1,3 +1,4 @@
+-- `top_kind` meets its contract. Assumes nothing.
 use mathlib.Core.Path.{refl, ap}
 use Rattle.store.specs.declared.Kind.the-variants as kind
 use Rattle.formula.proofs.KindLaw.{top-is, top-both}

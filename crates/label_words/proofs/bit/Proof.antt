@@ -1,3 +1,4 @@
+-- `bit` meets its contract. Assumes nothing.
 use borrow.Author.Tests.{eq-eqb, ne-eqb}
 use Rattle.label_words.proofs.bit.Statement.{statement}
 use Rattle.label_words.proofs.bit.Tie as tie

@@ -1,3 +1,4 @@
+-- `word` meets its contract. Assumes nothing.
 use borrow.Author.Needs.{needs}
 use native.Mathlib.Omega.{arith}
 use Rattle.texts.specs.Cut.{rest-is}

@@ -1,3 +1,4 @@
+-- `facts_of` meets its contract. Assumes nothing.
 use borrow.Author.Needs.{needs}
 use Rattle.labels.proofs.facts_of.Statement.{statement}
 use Rattle.labels.proofs.facts_of.Tie as tie

@@ -1,3 +1,4 @@
+-- `rest` meets its contract. Assumes nothing.
 use native.Mathlib.Omega.{arith}
 use Rattle.texts.specs.Cut.{rest-is}
 use Rattle.labels.specs.RowLaw.{rest-bad, rest-read}

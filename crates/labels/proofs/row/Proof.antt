@@ -1,3 +1,4 @@
+-- `row` meets its contract. Assumes nothing.
 use native.Mathlib.Omega.{arith}
 use mathlib.Core.Path.{sym, _∙_}
 use Rattle.labels.specs.RowLaw.{row-zero, row-none, row-some, row-fits}

@@ -1,3 +1,4 @@
+-- `unended` meets its contract. Assumes nothing.
 use Rattle.labels.specs.RowsLaw.{unended-is}
 use Rattle.labels.proofs.unended.Statement.{statement}
 use Rattle.labels.proofs.unended.Tie as tie

@@ -1,3 +1,4 @@
+-- `facts_of` meets its contract. Assumes nothing.
 use borrow.Author.Needs.{needs}
 use Rattle.moves.proofs.facts_of.Statement.{statement}
 use Rattle.moves.proofs.facts_of.Tie as tie

@@ -1,3 +1,4 @@
+-- `move_line` meets its contract. Assumes nothing.
 use Rattle.moves.proofs.LineLaw.{line-bytes}
 use native.Mathlib.Omega.{arith}
 use mathlib.Core.Path.{sym, _∙_}

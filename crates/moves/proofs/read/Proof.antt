@@ -1,3 +1,4 @@
+-- `read` meets its contract. Assumes nothing.
 use Rattle.moves.proofs.TextLaw.{facts-from}
 use native.Mathlib.Omega.{arith}
 use mathlib.Core.Path.{sym, _∙_}

@@ -1,3 +1,4 @@
+-- `run_sum` meets its contract. Assumes nothing.
 use borrow.Author.Needs.{needs}
 use Rattle.moves.proofs.run_sum.Statement.{statement}
 use Rattle.moves.proofs.run_sum.Tie as tie

@@ -1,3 +1,4 @@
+-- `tally_lines` meets its contract. Assumes nothing.
 use mathlib.Core.Path.{refl}
 use lib.ListN.{length-drop}
 use borrow.Author.Needs.{needs}

@@ -1,3 +1,4 @@
+-- `unended` meets its contract. Assumes nothing.
 use Rattle.moves.proofs.ReadLaw.{unended-is}
 use Rattle.moves.proofs.unended.Statement.{statement}
 use Rattle.moves.proofs.unended.Tie as tie

@@ -1,3 +1,4 @@
+-- `comma_more` meets its contract. Assumes nothing.
 use borrow.Author.Tests.{eq-eqb, ne-eqb}
 use borrow.Author.Needs.{needs}
 use Rattle.names.proofs.comma_more.Statement.{statement}

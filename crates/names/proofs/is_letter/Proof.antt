@@ -1,3 +1,4 @@
+-- `is_letter` meets its contract. Assumes nothing.
 use borrow.Author.Tests.{le-leb, lt-leb}
 use Rattle.names.proofs.is_letter.Statement.{statement}
 use Rattle.names.proofs.is_letter.Tie as tie

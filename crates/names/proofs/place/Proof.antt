@@ -1,3 +1,4 @@
+-- `place` meets its contract. Assumes nothing.
 use mathlib.Core.Path.{_∙_}
 use Rattle.texts.specs.Cut.{rest-is}
 use Rattle.names.proofs.NamesLaw.{place-is}

@@ -1,3 +1,4 @@
+-- `prepare` meets its contract. Assumes nothing.
 use Rattle.prepare.proofs.PrepareLaw.{store-asked, marks-asked, rates-asked, prepared}
 use borrow.Author.Needs.{needs}
 use Rattle.prepare.proofs.prepare.Statement.{statement}

@@ -1,3 +1,4 @@
+-- `store_marks` meets its contract. Assumes nothing.
 use Rattle.prepare.proofs.MarksLaw.{marks-stored}
 use borrow.Author.Needs.{needs}
 use Rattle.prepare.proofs.store_marks.Statement.{statement}

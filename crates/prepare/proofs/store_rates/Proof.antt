@@ -1,3 +1,4 @@
+-- `store_rates` meets its contract. Assumes nothing.
 use Rattle.prepare.proofs.RatesLaw.{first-words, rates-stored}
 use borrow.Author.Needs.{needs}
 use Rattle.prepare.proofs.store_rates.Statement.{statement}

@@ -1,3 +1,4 @@
+-- `test` meets its contract. Assumes nothing.
 use Rattle.refusals.proofs.TestLaw.{sheet-refused, first-start, first-end, names-count, formula-refused, all-passed}
 use borrow.Author.Needs.{needs}
 use Rattle.refusals.proofs.test.Statement.{statement}

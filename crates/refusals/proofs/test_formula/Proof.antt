@@ -1,3 +1,4 @@
+-- `test_formula` meets its contract. Assumes nothing.
 use Rattle.refusals.proofs.FormulaLaw.{at-10, at-11, at-12, at-13, at-14, at-end}
 use borrow.Author.Needs.{needs}
 use Rattle.refusals.proofs.test_formula.Statement.{statement}

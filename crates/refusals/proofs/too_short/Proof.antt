@@ -1,3 +1,4 @@
+-- `too_short` meets its contract. Assumes nothing.
 use native.Mathlib.Omega.{arith}
 use Rattle.refusals.proofs.ShortLaw.{short-listed, few-marks}
 use borrow.Author.Needs.{needs}

@@ -1,3 +1,4 @@
+-- `clear` meets its contract. Assumes nothing.
 use Prim.Native.Nat.{_-_}
 use borrow.Author.Needs.{needs}
 use Rattle.rows.proofs.ClearLaw.{Inv, clear-laws}

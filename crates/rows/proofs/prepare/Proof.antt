@@ -1,3 +1,4 @@
+-- `prepare` meets its contract. Assumes nothing.
 use Rattle.rows.proofs.PrepareLaw.{prepare-laws}
 use borrow.Author.Needs.{needs}
 use Rattle.rows.proofs.prepare.Statement.{statement}

@@ -1,3 +1,4 @@
+-- `tally` meets its contract. Assumes nothing.
 use lib.ListN.{length}
 use Prim.Native.Nat.{_-_}
 use borrow.Author.Needs.{needs}

@@ -1,3 +1,4 @@
+-- `check` meets its contract. Assumes nothing.
 use Rattle.sheet.proofs.CheckLaw.{first-wrong, second-wrong, third-wrong, checked-is, within}
 use borrow.Author.Needs.{needs}
 use Rattle.sheet.proofs.check.Statement.{statement}

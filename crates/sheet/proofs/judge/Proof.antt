@@ -1,3 +1,4 @@
+-- `judge` meets its contract. Assumes nothing.
 use Rattle.sheet.proofs.JudgeLaw.{at-2, at-3, at-4, at-5, at-6, at-7, at-8, at-9, at-end}
 use Rattle.sheet.proofs.judge.Statement.{statement}
 use Rattle.sheet.proofs.judge.Tie as tie

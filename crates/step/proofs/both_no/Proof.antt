@@ -1,3 +1,4 @@
+-- `both_no` meets its contract. Assumes nothing.
 use borrow.Author.Needs.{needs}
 use Rattle.step.proofs.ByteLaw.{byte-laws}
 use Rattle.step.proofs.both_no.Statement.{statement}

@@ -1,3 +1,4 @@
+-- `moved_if` meets its contract. Assumes nothing.
 use Rattle.step.proofs.ByteLaw.{byte-laws}
 use borrow.Author.Needs.{needs}
 use Rattle.step.proofs.moved_if.Statement.{statement}

@@ -1,3 +1,4 @@
+-- `row` meets its contract. Assumes nothing.
 use Prim.Native.Nat.{_-_}
 use borrow.Author.Needs.{needs}
 use Rattle.step.proofs.RowLaw.{Inv, row-laws, lower-fits, left-fits}

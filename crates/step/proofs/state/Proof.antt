@@ -1,3 +1,4 @@
+-- `state` meets its contract. Assumes nothing.
 use Rattle.step.proofs.StateLaw.{state-laws}
 use borrow.Author.Needs.{needs}
 use Rattle.step.proofs.state.Statement.{statement}

@@ -1,3 +1,4 @@
+-- `step` meets its contract. Assumes nothing.
 use Prim.Native.Nat.{_-_}
 use borrow.Author.Needs.{needs}
 use Rattle.step.proofs.StepLaw.{Inv, step-laws}

@@ -1,3 +1,4 @@
+-- `light` meets its contract. Assumes nothing.
 use Rattle.store.proofs.PassLaw.{light-none, light-some}
 use borrow.Author.Needs.{needs}
 use Rattle.store.proofs.light.Statement.{statement}

@@ -1,3 +1,4 @@
+-- `passes` meets its contract. Assumes nothing.
 use borrow.Author.Tests.{le-leb, lt-leb}
 use borrow.Author.Needs.{needs}
 use Rattle.store.proofs.passes.Statement.{statement}

@@ -1,3 +1,4 @@
+-- `advance` meets its contract. Assumes nothing.
 use Prim.Native.Nat.{_-_}
 use borrow.Author.Needs.{needs}
 use Rattle.sums.proofs.AdvanceLaw.{Inv, advance-laws}

@@ -1,3 +1,4 @@
+-- `begin` meets its contract. Assumes nothing.
 use Prim.Native.Nat.{_-_}
 use borrow.Author.Needs.{needs}
 use Rattle.sums.proofs.BeginLaw.{Inv, begin-laws}

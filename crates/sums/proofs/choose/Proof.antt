@@ -1,3 +1,4 @@
+-- `choose` meets its contract. Assumes nothing.
 use borrow.Author.Needs.{needs}
 use Rattle.sums.proofs.ChooseLaw.{choose-laws}
 use Rattle.sums.proofs.choose.Statement.{statement}

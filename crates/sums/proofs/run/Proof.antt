@@ -1,3 +1,4 @@
+-- `run` meets its contract. Assumes nothing.
 use Prim.Native.Nat.{_-_, _+_}
 use borrow.Author.Needs.{needs}
 use Rattle.sums.proofs.RunLaw.{Inv, run-laws}

@@ -1,3 +1,4 @@
+-- `over_two` meets its contract. Assumes nothing.
 use native.Mathlib.Omega.{arith}
 use borrow.Author.Needs.{needs}
 use Rattle.survey.proofs.over_two.Statement.{statement}

@@ -1,3 +1,4 @@
+-- `is_digit` meets its contract. Assumes nothing.
 use borrow.Author.Tests.{le-leb, lt-leb}
 use Rattle.texts.proofs.is_digit.Statement.{statement}
 use Rattle.texts.proofs.is_digit.Tie as tie

@@ -1,3 +1,4 @@
+-- `lone_zero` meets its contract. Assumes nothing.
 use borrow.Author.Tests.{eq-eqb, ne-eqb}
 use Rattle.texts.proofs.lone_zero.Statement.{statement}
 use Rattle.texts.proofs.lone_zero.Tie as tie

@@ -1,3 +1,4 @@
+-- `settle` meets its contract. Assumes nothing.
 use borrow.Author.Tests.{eq-eqb, ne-eqb}
 use Rattle.texts.proofs.settle.Statement.{statement}
 use Rattle.texts.proofs.settle.Tie as tie

@@ -1,3 +1,4 @@
+-- `after` meets its contract. Assumes nothing.
 use Rattle.tokens.proofs.CutLaw.{after-none, after-some}
 use borrow.Author.Needs.{needs}
 use Rattle.tokens.proofs.after.Statement.{statement}

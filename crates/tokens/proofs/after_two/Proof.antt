@@ -1,3 +1,4 @@
+-- `after_two` meets its contract. Assumes nothing.
 use borrow.Author.Needs.{needs}
 use Rattle.tokens.proofs.after_two.Statement.{statement}
 use Rattle.tokens.proofs.after_two.Tie as tie

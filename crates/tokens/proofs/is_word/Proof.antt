@@ -1,3 +1,4 @@
+-- `is_word` meets its contract. Assumes nothing.
 use Rattle.tokens.proofs.WordLaw.{word-long, word-empty, word-other}
 use borrow.Author.Needs.{needs}
 use Rattle.tokens.proofs.is_word.Statement.{statement}

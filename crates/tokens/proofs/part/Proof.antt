@@ -1,3 +1,4 @@
+-- `part` meets its contract. Assumes nothing.
 use Rattle.tokens.proofs.CutLaw.{part-none, part-some}
 use borrow.Author.Needs.{needs}
 use Rattle.tokens.proofs.part.Statement.{statement}

@@ -1,3 +1,4 @@
+-- `ends` meets its contract. Assumes nothing.
 use Prim.Native.Nat.{_-_}
 use borrow.Author.Needs.{needs}
 use Rattle.until.proofs.EndsLaw.{Inv, turn, ends-laws}

@@ -1,3 +1,4 @@
+-- `pointed` meets its contract. Assumes nothing.
 use Rattle.until.proofs.PointedLaw.{pointed-laws}
 use borrow.Author.Needs.{needs}
 use Rattle.until.proofs.pointed.Statement.{statement}

@@ -1,3 +1,4 @@
+-- `still` meets its contract. Assumes nothing.
 use Prim.Native.Nat.{_-_}
 use borrow.Author.Needs.{needs}
 use Rattle.until.proofs.StillLaw.{Inv, still-laws}

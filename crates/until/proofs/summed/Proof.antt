@@ -1,3 +1,4 @@
+-- `summed` meets its contract. Assumes nothing.
 use borrow.Author.Needs.{needs}
 use Rattle.until.proofs.SummedLaw.{summed-laws, may-end}
 use Rattle.until.proofs.summed.Statement.{statement}

@@ -1,3 +1,4 @@
+-- `until` meets its contract. Assumes nothing.
 use borrow.Author.Needs.{needs}
 use Rattle.until.proofs.UntilLaw.{until-laws}
 use Rattle.until.proofs.until.Statement.{statement}

@@ -1,3 +1,4 @@
+-- `weigh` meets its contract. Assumes nothing.
 use Rattle.until.proofs.WeighLaw.{is-weighed}
 use borrow.Author.Needs.{needs}
 use Rattle.until.proofs.weigh.Statement.{statement}

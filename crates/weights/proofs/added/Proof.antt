@@ -1,3 +1,4 @@
+-- `added` meets its contract. Assumes nothing.
 use borrow.Author.Needs.{needs}
 use Rattle.weights.proofs.AddedLaw.{added-laws}
 use Rattle.weights.proofs.added.Statement.{statement}

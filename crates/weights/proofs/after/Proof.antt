@@ -1,3 +1,4 @@
+-- `after` meets its contract. Assumes nothing.
 use Rattle.weights.proofs.StepLaw.{step-laws}
 use borrow.Author.Needs.{needs}
 use Rattle.weights.proofs.after.Statement.{statement}

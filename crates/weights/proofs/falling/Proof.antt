@@ -1,3 +1,4 @@
+-- `falling` meets its contract. Assumes nothing.
 use borrow.Author.Needs.{needs}
 use Rattle.weights.proofs.FallingLaw.{Inv, falling-laws}
 use Rattle.weights.proofs.falling.Statement.{statement}

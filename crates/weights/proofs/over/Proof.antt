@@ -1,3 +1,4 @@
+-- `over` meets its contract. Assumes nothing.
 use Rattle.weights.proofs.OverLaw.{over-laws}
 use borrow.Author.Needs.{needs}
 use Rattle.weights.proofs.over.Statement.{statement}

@@ -1,3 +1,4 @@
+-- `rising` meets its contract. Assumes nothing.
 use Prim.Native.Nat.{_-_}
 use borrow.Author.Needs.{needs}
 use Rattle.weights.proofs.RisingLaw.{Inv, rising-laws}

@@ -1,3 +1,4 @@
+-- `total` meets its contract. Assumes nothing.
 use Prim.Native.Nat.{_-_, _+_}
 use borrow.Author.Needs.{needs}
 use Rattle.weights.proofs.TotalLaw.{Inv, total-laws}

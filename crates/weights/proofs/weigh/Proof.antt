@@ -1,3 +1,4 @@
+-- `weigh` meets its contract. Assumes nothing.
 use Rattle.weights.proofs.WeighLaw.{weigh-laws, may-total}
 use borrow.Author.Needs.{needs}
 use Rattle.weights.proofs.weigh.Statement.{statement}

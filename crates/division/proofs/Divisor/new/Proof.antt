@@ -1,3 +1,4 @@
+-- `new` meets its contract. Assumes nothing.
 use Prim.Native.Nat.{_-_}
 use borrow.Author.Needs.{needs}
 use Rattle.division.proofs.NewLaw.{Inv, new-laws}

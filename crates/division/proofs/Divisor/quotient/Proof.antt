@@ -1,3 +1,4 @@
+-- `quotient` meets its contract. Assumes nothing.
 use Rattle.division.proofs.QuotientLaw.{quotient-laws}
 use borrow.Author.Needs.{needs}
 use Rattle.division.proofs.Divisor.quotient.Statement.{statement}

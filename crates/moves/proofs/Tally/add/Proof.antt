@@ -1,3 +1,4 @@
+-- `add` meets its contract. Assumes nothing.
 use borrow.Author.Needs.{needs}
 use Rattle.moves.proofs.Tally.add.Statement.{statement}
 use Rattle.moves.proofs.Tally.add.Tie as tie
