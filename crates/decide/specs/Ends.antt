@@ -8,7 +8,7 @@ use Rattle.csl.specs.Chain.{Chain}
 use Rattle.csl.specs.Phase.{untilPhase}
 use Rattle.csl.specs.Verdicts.{Verdict, least, most}
 use Rattle.csl.specs.Laws.Complement.{complement}
-use Rattle.bounds.specs.Values.{Rounds, verdictOf}
+use Rattle.bounds.specs.Values.{Rounds, verdictAt}
 use Rattle.bounds.specs.Found.{lowerFound, upperFound, lower-found, upper-found}
 use Rattle.rows.specs.Words.{at, topOf}
 use Rattle.rows.specs.Shown.{Shows}
@@ -18,7 +18,7 @@ use Rattle.until.specs.Shown.{low-rounds, left-rounds, lower-shown, upper-shown
 
 -- a row of bytes holds verdicts
 abbrev pub Row : List ℕ → ℕ → (ℕ → Verdict) → Type 0
-Row row n v = (s : ℕ) → s < n → verdictOf (at row s) ≡ v s
+Row row n v = (s : ℕ) → s < n → verdictAt (at row s) ≡ v s
 
 module _ (c : Chain) (x y v w : ℕ → Verdict) (h : (s : ℕ) → s < c .states → x s ≡ v s) (k : (s : ℕ) → s < c .states → y s ≡ w s) where
   -- rounded values for verdicts are those for equal verdicts

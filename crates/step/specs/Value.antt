@@ -5,12 +5,12 @@ use Rattle.csl.specs.Phase.{Phase, untilPhase}
 use Rattle.csl.specs.Verdicts.{Verdict, least, most}
 use Rattle.csl.specs.Laws.Complement.{complement}
 use Rattle.bounds.specs.Ends.{one}
-use Rattle.bounds.specs.Values.{settled, verdictOf}
+use Rattle.bounds.specs.Values.{settled, verdictAt}
 use Rattle.rows.specs.Words.{at, exitOf, flow}
 
 -- the verdicts of a row of bytes
 abbrev pub verdicts : List ℕ → ℕ → Verdict
-verdicts row s = verdictOf (at row s)
+verdicts row s = verdictAt (at row s)
 
 -- until with undecided operand states read as no; and what is left of 1 with them read as yes
 abbrev pub lowPhase : List ℕ → List ℕ → Phase

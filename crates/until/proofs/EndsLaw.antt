@@ -11,7 +11,7 @@ use mir.Val.{Fits}
 use mir.Syntax.{w64}
 use Rattle.csl.specs.Limits.{billion}
 use Rattle.bounds.specs.Ends.{one}
-use Rattle.bounds.specs.Values.{pointed, verdictOf}
+use Rattle.bounds.specs.Values.{pointed, verdictAt}
 use Rattle.weights.specs.Asked.{Over}
 use Rattle.rows.specs.Words.{at}
 use Rattle.step.specs.Value.{verdicts}
@@ -100,8 +100,8 @@ module _ {l₀ l first second : List ℕ} {n total s : ℕ} (v : Inv l₀ l firs
   others x y k a b = getD-set-other (set l s x) (n + s) k y 0 b ∙ getD-set-other l s k x 0 a
 
   pub turn : (r r' x y : ℕ) → r ≡ at l (4 * n + s) * 65536 / total → r' ≡ at l (5 * n + s) * 65536 / total
-      → x ≡ pointed (verdictOf (at first s)) (verdictOf (at second s)) r
-      → y ≡ pointed (verdictOf (at first s)) (verdictOf (at second s)) (1000000000 - r')
+      → x ≡ pointed (verdictAt (at first s)) (verdictAt (at second s)) r
+      → y ≡ pointed (verdictAt (at first s)) (verdictAt (at second s)) (1000000000 - r')
       → Inv l₀ (set (set l s x) (n + s) y) first second n total (s + 1)
   turn r r' x y e e' f f' =
       record {

@@ -14,7 +14,7 @@ use Rattle.numbers.specs.Hint.{mul-bound}
 use Rattle.numbers.specs.Sum.{sum-cong, sum-rest-none}
 use Rattle.bounds.specs.Weight.{peak, low, Middle, low-most}
 use Rattle.bounds.specs.Ends.{one, part, total, gathered, lowerEnd, gathered-most, total-most, total-peak}
-use Rattle.bounds.specs.Values.{verdictOf}
+use Rattle.bounds.specs.Values.{verdictAt}
 use Rattle.division.specs.declared.Divisor.{Divisor}
 use Rattle.division.specs.Contract.{Prepared}
 use Rattle.rows.specs.Words.{at}
@@ -24,7 +24,7 @@ use Rattle.sums.specs.Asked.{BeginAsked, Begun, RunAsked, sumOf, Ran}
 use Rattle.until.specs.Asked.{WeighAsked, Weighed, LastAsked, Last, EndsAsked, Ended, SummedAsked, Summed}
 
 -- the starts of the two phases, by a verdict byte
-low-start : (g : ℕ) → cond (eqb g 1) one 0 ≡ one * bit (asNo (verdictOf g))
+low-start : (g : ℕ) → cond (eqb g 1) one 0 ≡ one * bit (asNo (verdictAt g))
 low-start g = at (eqb g 0) (eqb g 1) refl refl
   where
     at : (a b : Bool) → eqb g 0 ≡ a → eqb g 1 ≡ b → cond b one 0 ≡ one * bit (asNo (cond a No (cond b Yes Undecided)))
@@ -33,7 +33,7 @@ low-start g = at (eqb g 0) (eqb g 1) refl refl
     at false true p q = refl
     at false false p q = refl
 
-left-start : (g : ℕ) → cond (eqb g 0) one 0 ≡ one * (1 - bit (asYes (verdictOf g)))
+left-start : (g : ℕ) → cond (eqb g 0) one 0 ≡ one * (1 - bit (asYes (verdictAt g)))
 left-start g = at (eqb g 0) (eqb g 1)
   where
     at : (a b : Bool) → cond a one 0 ≡ one * (1 - bit (asYes (cond a No (cond b Yes Undecided))))

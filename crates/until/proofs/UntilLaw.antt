@@ -14,7 +14,7 @@ use Rattle.csl.specs.Chain.{greatest}
 use Rattle.csl.specs.Laws.Sum.{greatest-le}
 use Rattle.csl.specs.Phase.{bit}
 use Rattle.csl.specs.Verdicts.{No, Yes, Undecided, asNo, asYes}
-use Rattle.bounds.specs.Values.{pointed, verdictOf}
+use Rattle.bounds.specs.Values.{pointed, verdictAt}
 use Rattle.rows.specs.Words.{at, exitOf, topOf}
 use Rattle.until.specs.Asked.{depthOf, Loaded, StillAsked, Still, SummedAsked, Summed, UntilAsked, Until}
 
@@ -28,7 +28,7 @@ greatest-most f (suc n) c h = max-most (greatest f n) (f n) c (greatest-most f n
     max-most x y c h k = omega arith
 
 -- the ends where the load is 0, by verdict bytes
-still-lower : (f g : ℕ) → cond (eqb g 1) billion 0 ≡ pointed (verdictOf f) (verdictOf g) (billion * bit (asNo (verdictOf g)))
+still-lower : (f g : ℕ) → cond (eqb g 1) billion 0 ≡ pointed (verdictAt f) (verdictAt g) (billion * bit (asNo (verdictAt g)))
 still-lower f g = at (eqb f 0) (eqb f 1) (eqb g 0) (eqb g 1) refl refl
   where
     at : (a b c e : Bool) → eqb g 0 ≡ c → eqb g 1 ≡ e
@@ -40,7 +40,7 @@ still-lower f g = at (eqb f 0) (eqb f 1) (eqb g 0) (eqb g 1) refl refl
     at a b false true p q = refl
     at a b false false p q = refl
 
-still-upper : (f g : ℕ) → cond (eqb g 0) 0 billion ≡ pointed (verdictOf f) (verdictOf g) (billion * bit (asYes (verdictOf g)))
+still-upper : (f g : ℕ) → cond (eqb g 0) 0 billion ≡ pointed (verdictAt f) (verdictAt g) (billion * bit (asYes (verdictAt g)))
 still-upper f g = at (eqb f 0) (eqb f 1) (eqb g 0) (eqb g 1)
   where
     at : (a b c e : Bool)

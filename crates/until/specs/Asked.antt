@@ -44,7 +44,7 @@ pub record LastAsked (l : List ℕ) (n depth : ℕ) : Type 0 where
   pub limit : depth < 1024
   pub room : 8 * n + depth < length l
 
--- from that step on, through the depth, all weights are 0; its own is not, unless it is step 0
+-- the steps after it, through the depth, have weight 0; its own weight is above 0, unless it is step 0
 pub record Last (n depth : ℕ) (l : List ℕ) (r : ℕ) : Type 0 where
   pub within : r ≤ depth
   pub above : 0 < r → 0 < at l (8 * n + r)

@@ -47,7 +47,7 @@ fn last_weighed(words: &[u64], n: usize, depth: usize) -> usize
 
 // An end where the operands' verdicts leave it open, else the point end.
 pub fn pointed(f: u8, g: u8, x: u64) -> u64
-    ensures { λ r. ⌜ r ≡ values.pointed (values.verdictOf f) (values.verdictOf g) x ⌝ }
+    ensures { λ r. ⌜ r ≡ values.pointed (values.verdictAt f) (values.verdictAt g) x ⌝ }
 {
     if g == 1 {
         BILLION
