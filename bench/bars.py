@@ -3,33 +3,43 @@ from collections import namedtuple
 
 from measuring import balls_agree, doubles_agree, width
 
-MOST_OVER_DOUBLES = 3
-LEAST_UNDER_BALLS = 15
+FEW_MOVES = 3                           # with fewer moves out of a state than this a sheet is sparse
+MOST_OVER_DOUBLES = {"dense": 1.6, "sparse": 2.4}
+GOAL_OVER_DOUBLES = {"dense": 1.3, "sparse": 2.0}
+LEAST_UNDER_BALLS = 60
+LEAST_UNDER_DOTS = 30                   # a goal and no bar
 MOST_OVER_UNTILS = 1.3
 JUDGED_DEPTH = 168                      # the whole job is judged at this depth, and told of the others
 MOST_RESIDENT = 4096                    # KB
-GOAL_WIDTH = 2                          # billionths; a goal and no bar
+MOST_WIDTH = 2                          # billionths
 
 # What is asked, what was found, and whether that meets it; only a bar that is `judged` makes the bench fail.
 Bar = namedtuple("Bar", "asked found met judged")
 
 
+def shape(row):
+    """Whether a row's sheet is dense or sparse."""
+    return "sparse" if row.sheet.moves < FEW_MOVES * row.sheet.states else "dense"
+
+
 def over_doubles(rows):
-    """The engine against the doubles, in every row."""
-    over = [row.engine / row.doubles for row in rows]
-    return Bar(f"engine at most {MOST_OVER_DOUBLES} times the doubles in every row", f"{min(over):.2f} to {max(over):.2f}",
-               max(over) <= MOST_OVER_DOUBLES, True)
+    """The engine against the doubles, in every row: a bar and a goal for dense sheets, and for sparse ones."""
+    for kind in MOST_OVER_DOUBLES:
+        over = [row.engine / row.doubles for row in rows if shape(row) == kind]
+        for most, judged in ((MOST_OVER_DOUBLES[kind], True), (GOAL_OVER_DOUBLES[kind], False)):
+            yield Bar(f"engine at most {most} times the doubles in every {kind} row", f"{min(over):.2f} to {max(over):.2f}",
+                      max(over) <= most, judged)
 
 
 def under_balls(rows):
     """The engine against the balls, in every row: against the same loop, and as a thing to be told against Arb's dot product."""
-    for name, told_as in (("balls", "Arb"), ("dot", "Arb's dot product")):
-        asked = f"engine at least {LEAST_UNDER_BALLS} times faster than {told_as} in every row"
+    for name, told_as, least in (("balls", "Arb", LEAST_UNDER_BALLS), ("dot", "Arb's dot product", LEAST_UNDER_DOTS)):
+        asked = f"engine at least {least} times faster than {told_as} in every row"
         if any(row.balls is None for row in rows):
             yield Bar(asked, "Arb is not there", None, False)
         else:
             under = [getattr(row, name) / row.engine for row in rows]
-            yield Bar(asked, f"{min(under):.1f} to {max(under):.1f}", min(under) >= LEAST_UNDER_BALLS, name == "balls")
+            yield Bar(asked, f"{min(under):.1f} to {max(under):.1f}", min(under) >= least, name == "balls")
 
 
 def over_untils(rows):
@@ -54,12 +64,13 @@ def of_answers(rows):
     agree = all(doubles_agree(row) and balls_agree(row) is not False for row in rows)
     yield Bar("answers of doubles and Arb within the intervals in every row", "yes" if agree else "no", agree, True)
     widest = max(map(width, rows))
-    yield Bar(f"goal: no interval wider than {GOAL_WIDTH} billionths", f"{widest}", widest <= GOAL_WIDTH, False)
+    yield Bar(f"no interval wider than {MOST_WIDTH} billionths", f"{widest}", widest <= MOST_WIDTH, True)
 
 
 def bars(rows, others, footprints):
-    """All bars; `others` are rows that only have to agree."""
-    return [over_doubles(rows), *under_balls(rows), *over_untils(rows), *of_footprints(footprints), *of_answers(rows + others)]
+    """All bars; `others` are rows of other shapes, where the whole job is not held against its until."""
+    every = rows + others
+    return [*over_doubles(every), *under_balls(every), *over_untils(rows), *of_footprints(footprints), *of_answers(every)]
 
 
 def told(bar):

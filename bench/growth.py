@@ -33,4 +33,4 @@ def steps_made(depth):
     while step < depth and weight * load // (step + 1):
         step += 1
         weight = weight * load // step
-    return step + 1
+    return step

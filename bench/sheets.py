@@ -4,6 +4,9 @@ from collections import namedtuple
 
 TOP_RATE = 1_000_000                    # the greatest exit rate of every sheet: the load of an until over t hours is t
 MOST_MOVES = 4096
+HOURS = [1, 32, 64]                     # loads, and so depths 42, 104 and 168
+SIZES = [(64, 7), (256, 7), (512, 7)]   # states, and moves out of each
+SHAPES = [(512, 2), (512, 4), (256, 14), (64, 28)]
 DEAD_OF = 32                            # one state of so many is dead
 
 # A sheet in a folder: its number of states and of moves.

@@ -1,4 +1,4 @@
-"""The program against the second reckoning and document 01: made jobs, damaged jobs, jobs at the limits, bench values; how narrow it is, and its stack."""
+"""The program against the second reckoning and document 01: made jobs, damaged jobs, jobs at the limits, bench values; and its stack."""
 import random
 import resource
 import subprocess
@@ -8,14 +8,13 @@ from reckoning.judge import judge
 from reckoning.report import read_report, refused
 from tests import limits
 from tests.agreement import refusal_number, tried
-from tests.jobs import damaged_job, labels_text, moves_text, random_job
+from tests.jobs import damaged_job, random_job
 from tests.mutations import bent_job
 from tests.places import DEEP
 from tests.program import run
 
 DAMAGED = 3_000
 MADE = 300
-WIDEST = 3                  # billionths, where no operand state is undecided
 STACK = 1 << 20             # bytes that the program gets by with
 READING_STACK = 1 << 18     # and the readers
 HEAD = b"from,to,rate\n"
@@ -51,11 +50,6 @@ class Program(unittest.TestCase):
                     else:
                         self.assertFalse(run(job, stack=STACK).startswith(b"refused"))
 
-    def test_narrow(self):
-        widest = max(width for job in narrow_jobs() for width in widths_of(job))
-        print(f"widest interval: {widest} billionths")
-        self.assertLessEqual(widest, WIDEST)
-
     def test_bench_values(self):
         """What document 01 says of jobs on its small sheet, and of the limits."""
         def rows(formula, moves=b"0,1,500\n"):
@@ -82,38 +76,6 @@ class Program(unittest.TestCase):
         told = subprocess.run([DEEP], stdout=subprocess.PIPE, check=True, preexec_fn=limit).stdout
         self.assertEqual(set(told.split()), {b"ok"})
         self.assertGreater(len(told.split()), 50)
-
-
-def narrow_jobs():
-    """Lines at full load and stiff rings."""
-    for states in (2, 12, 40, 160):
-        yield line_job(states)
-    rng = random.Random(3)
-    for _ in range(40):
-        yield ring_job(rng, rng.randint(3, 20), rng.choice([1, 8, 720, 8_760]))
-
-
-def line_job(states):
-    """A line at full load, from its first state to its last."""
-    moves = [(s, s + 1, 64_000_000) for s in range(states - 1)]
-    return moves_text(moves), ends_text(states), b"P < 500000000 U 1 tt last\n"
-
-
-def ring_job(rng, states, hours):
-    """A ring with rates from 1 up to what the hours allow."""
-    most = min(63_999_999, 64_000_000 // hours)
-    moves = sorted((s, (s + 1) % states, rng.choice([1, 7, most // 3 + 1, most])) for s in range(states))
-    return moves_text(moves), ends_text(states), b"P < 500000000 U %d tt last\n" % hours
-
-
-def ends_text(states):
-    """Labels whose one name marks the last state."""
-    return labels_text([b"last"], [[int(s == states - 1)] for s in range(states)])
-
-
-def widths_of(job):
-    states = len(job[1].split(b"\n")) - 2
-    return [row.upper - row.lower for row in read_report(run(job), states)]
 
 
 if __name__ == "__main__":

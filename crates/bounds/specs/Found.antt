@@ -15,13 +15,13 @@ use Rattle.csl.specs.Ends.{EndsAt}
 use Rattle.csl.specs.Backing.{Backed, AtEach, UntilBacked}
 use Rattle.csl.specs.Report.{Reported, lowerOf as plainLower, upperOf as plainUpper}
 use Rattle.csl.specs.Refusal.{Job, jobChain, jobFormula, highLoad}
-use Rattle.csl.specs.Laws.Complement.{complement}
 use Rattle.csl.specs.Laws.Backing.{backed-not, backed-both}
 use Rattle.bounds.specs.Ends.{end-same}
+use Rattle.bounds.specs.Upper.{left-same}
 use Rattle.bounds.specs.Width.{mostDepth}
 use Rattle.bounds.specs.Values.{Rounds, pointed}
 use Rattle.bounds.specs.Rounded.{rounded, rounded-rounds, rounds-same}
-use Rattle.bounds.specs.Reading.{summedEnd}
+use Rattle.bounds.specs.Reading.{summedLower, summedUpper}
 use Rattle.bounds.specs.UntilEnds.{untilLower, untilUpper, until-ends}
 
 -- the ends of an until over t hours at each state, where the operands have the verdicts v and w
@@ -29,34 +29,39 @@ abbrev pub lowerFound : Chain → ℕ → (v w : ℕ → Verdict) → ℕ → �
 lowerFound c t v w = untilLower c t v w (rounded c (untilPhase (least v) (least w)))
 
 abbrev pub upperFound : Chain → ℕ → (v w : ℕ → Verdict) → ℕ → ℕ
-upperFound c t v w = untilUpper c t v w (rounded c (complement (untilPhase (most v) (most w))))
+upperFound c t v w = untilUpper c t v w (rounded c (untilPhase (most v) (most w)))
 
 -- whatever rounded values are at hand, the ends are these
 cond-same : (a x y z : ℕ) (b : Bool) → eqb a 0 ≡ b → (0 < a → y ≡ z) → cond b x y ≡ cond b x z
 cond-same a x y z true e h = refl
 cond-same a x y z false e h = let n : a ≡ 0 → ⊥ = eqb-false a 0 e in h (omega arith)
 
-summed-same : (c : Chain) (t : ℕ) (ph : Phase) (val : ℕ → ℕ → ℕ) (s : ℕ) → s < c .states → Rounds c ph val
-    → summedEnd c t val s ≡ summedEnd c t (rounded c ph) s
-summed-same c t ph val s l r =
+summed-lower-same : (c : Chain) (t : ℕ) (ph : Phase) (val : ℕ → ℕ → ℕ) (s : ℕ) → s < c .states → Rounds c ph val
+    → summedLower c t val s ≡ summedLower c t (rounded c ph) s
+summed-lower-same c t ph val s l r =
     end-same (topRate c * t) rateHours (topRate c * t / rateHours) (depth c t) (λ k. val k s) (λ k. rounded c ph k s)
     (λ k i. rounds-same c ph val r k s l)
+
+summed-upper-same : (c : Chain) (t : ℕ) (ph : Phase) (val : ℕ → ℕ → ℕ) (s : ℕ) → s < c .states → Rounds c ph val
+    → summedUpper c t val s ≡ summedUpper c t (rounded c ph) s
+summed-upper-same c t ph val s l r =
+    ap (λ (x : ℕ). billion - x)
+    (left-same (topRate c * t) rateHours (topRate c * t / rateHours) (depth c t) 0 (λ k. val k s) (λ k. rounded c ph k s)
+    (λ k i. rounds-same c ph val r k s l))
 
 module _ (c : Chain) (t : ℕ) (v w : ℕ → Verdict) (val : ℕ → ℕ → ℕ) (s : ℕ) (in-range : s < c .states) where
   pub lower-found : (0 < topRate c * t → Rounds c (untilPhase (least v) (least w)) val) → untilLower c t v w val s ≡ lowerFound c t v w s
   lower-found r =
-      ap (pointed (v s) (w s)) (cond-same (topRate c * t) _ _ _ (eqb (topRate c * t) 0) refl (λ p. summed-same c t _ val s in-range (r p)))
+      ap (pointed (v s) (w s)) (cond-same (topRate c * t) _ _ _ (eqb (topRate c * t) 0) refl (λ p. summed-lower-same c t _ val s in-range (r p)))
 
-  pub upper-found : (0 < topRate c * t → Rounds c (complement (untilPhase (most v) (most w))) val) → untilUpper c t v w val s ≡ upperFound c t v w s
+  pub upper-found : (0 < topRate c * t → Rounds c (untilPhase (most v) (most w)) val) → untilUpper c t v w val s ≡ upperFound c t v w s
   upper-found r =
-      ap (pointed (v s) (w s))
-      (cond-same (topRate c * t) _ _ _ (eqb (topRate c * t) 0) refl
-      (λ p. ap (λ (x : ℕ). billion - x) (summed-same c t _ val s in-range (r p))))
+      ap (pointed (v s) (w s)) (cond-same (topRate c * t) _ _ _ (eqb (topRate c * t) 0) refl (λ p. summed-upper-same c t _ val s in-range (r p)))
 
 pub ends-found : (c : Chain) (t : ℕ) (v w : ℕ → Verdict) → depth c t ≤ mostDepth
     → AtEach c λ s. EndsAt c t v w s (lowerFound c t v w s) (upperFound c t v w s)
 ends-found c t v w small s l =
-    until-ends c t s v w l (rounded c (untilPhase (least v) (least w))) (rounded c (complement (untilPhase (most v) (most w)))) small
+    until-ends c t s v w l (rounded c (untilPhase (least v) (least w))) (rounded c (untilPhase (most v) (most w))) small
     (λ p. rounded-rounds c _) (λ p. rounded-rounds c _)
 
 -- the verdict of a formula at each state

@@ -2,12 +2,14 @@
 pub mod Exact
 pub mod Ladder
 pub mod Weight
+pub mod Unit
 pub mod Under
 pub mod Ends
+pub mod Upper
 pub mod Width
 pub mod Values
 pub mod Rounded
-pub mod Together
+pub mod Near
 pub mod Quotient
 pub mod PhaseEnd
 pub mod Reading

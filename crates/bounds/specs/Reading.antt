@@ -1,88 +1,80 @@
--- The ends of an until with load above 0, from sums: the lower end of the reading with undecided as no, and what the lower end of the
--- complement of the reading with undecided as yes leaves of 1. Assumes nothing.
-use mathlib.Core.Path.{sym, _≡_, refl}
+-- The ends of an until with load above 0, from sums: the lower end of the reading with undecided as no, the upper end of that with
+-- undecided as yes. Assumes nothing.
+use mathlib.Core.Path.{_≡_, refl, sym, _∙_, ap}
 use mathlib.Core.Bool.{Bool, true, false}
 use Prim.Native.Nat.{ℕ, zero, suc, _+_, _*_, _-_, _/_, _≤_, _<_}
 use native.Mathlib.Omega.{arith}
 use Rattle.csl.specs.Limits.{billion, rateHours}
 use Rattle.csl.specs.Chain.{Chain, topRate, load, depth}
 use Rattle.csl.specs.Phase.{Phase, bit, untilPhase}
-use Rattle.csl.specs.Verdicts.{Verdict, No, Yes, Undecided, asNo, asYes, least, most, Decided}
-use Rattle.csl.specs.Ends.{EndsAt, AllDecided}
-use Rattle.csl.specs.Laws.Complement.{complement}
+use Rattle.csl.specs.Verdicts.{Verdict, No, Yes, least, most}
+use Rattle.csl.specs.Ends.{EndsAt, AllDecided, slack}
+use Rattle.csl.specs.Laws.Verdicts.{decided-same}
+use Rattle.csl.specs.Laws.Quotient.{until-starts}
 use Rattle.csl.specs.Laws.SummedEnds.{Bounds, ends-summed}
 use Rattle.bounds.specs.Ends.{lowerEnd, end-most}
+use Rattle.bounds.specs.Upper.{upperEnd, left-same}
 use Rattle.bounds.specs.Width.{mostDepth}
 use Rattle.bounds.specs.Values.{Rounds}
-use Rattle.bounds.specs.Rounded.{rounded, rounded-rounds, rounds-most}
-use Rattle.bounds.specs.Together.{Opposite}
-use Rattle.bounds.specs.PhaseEnd.{phase-below, phase-width}
-use Rattle.csl.specs.Laws.Verdicts.{decided-same}
+use Rattle.bounds.specs.Rounded.{rounds-run, rounds-same, rounds-most}
+use Rattle.bounds.specs.PhaseEnd.{PhaseEnds, phase-ends}
 
 bit-most : (b : Bool) → bit b ≤ 1
 bit-most true = omega arith
 bit-most false = omega arith
 
-until-opposite : (c : Chain) (x y : ℕ → Bool) → Opposite c (untilPhase x y) (complement (untilPhase x y))
-until-opposite c x y = record { starts = λ s l. omega (arith, bit-most (y s)); ones = λ s l. refl; nils = λ s l. refl }
-
 -- with every operand state decided the two readings are one
-decided-opposite : (c : Chain) (v w : ℕ → Verdict) → AllDecided c v → AllDecided c w
-    → Opposite c (untilPhase (least v) (least w)) (complement (untilPhase (most v) (most w)))
-decided-opposite c v w d e =
+decided-rounds : (c : Chain) (v w : ℕ → Verdict) → AllDecided c v → AllDecided c w → (val : ℕ → ℕ → ℕ)
+    → Rounds c (untilPhase (most v) (most w)) val → Rounds c (untilPhase (least v) (least w)) val
+decided-rounds c v w d e val r =
     record {
-      starts = λ s l. rw (← decided-same (w s) (e s l)) (omega (arith, bit-most (asNo (w s))));
-      ones = λ s l. rw (← decided-same (v s) (d s l), ← decided-same (w s) (e s l)) refl;
-      nils = λ s l. sym (decided-same (w s) (e s l));
+      start = λ s l. rw (decided-same (w s) (e s l)) (r .start s l);
+      next = λ k s l. rw (decided-same (v s) (d s l), decided-same (w s) (e s l)) (r .next k s l);
     }
 
 factor-some : (q t : ℕ) → 0 < q * t → 0 < q
 factor-some zero t h = absurd (omega arith)
 factor-some (suc q) t h = omega arith
 
--- the lower end of a phase at state s, for t hours
-abbrev pub summedEnd : Chain → ℕ → (ℕ → ℕ → ℕ) → ℕ → ℕ
-summedEnd c t val s = lowerEnd (topRate c * t) rateHours (topRate c * t / rateHours) (depth c t) (λ k. val k s)
+-- the two ends of a phase at state s, for t hours, from rounded values
+abbrev pub summedLower : Chain → ℕ → (ℕ → ℕ → ℕ) → ℕ → ℕ
+summedLower c t val s = lowerEnd (topRate c * t) rateHours (topRate c * t / rateHours) (depth c t) (λ k. val k s)
+
+abbrev pub summedUpper : Chain → ℕ → (ℕ → ℕ → ℕ) → ℕ → ℕ
+summedUpper c t val s = upperEnd (topRate c * t) rateHours (topRate c * t / rateHours) (depth c t) 0 (λ k. val k s)
 
 module _ (c : Chain) (t s : ℕ) (in-range : s < c .states) (small : depth c t ≤ mostDepth) (moving : 0 < topRate c * t) where
-  rate : 0 < topRate c
-  rate = factor-some (topRate c) t moving
-
-  together : (ph ph' : Phase) (val left : ℕ → ℕ → ℕ) → Opposite c ph ph' → Rounds c ph val → Rounds c ph' left
-      → billion ≤ summedEnd c t val s + summedEnd c t left s + 4 * depth c t
+  -- one reading
+  reading-bounds : (x y : ℕ → Bool) (val : ℕ → ℕ → ℕ) → Rounds c (untilPhase x y) val
+      → Bounds c t x y s (summedLower c t val s) (summedUpper c t val s)
   unfolding load depth
-  together ph ph' val left = phase-width (topRate c * t) rateHours moving (omega arith) c ph ph' val left s rate in-range small
+  reading-bounds x y val r =
+      let p : PhaseEnds c (untilPhase x y) (topRate c * t) rateHours 0 s (summedLower c t val s) (summedUpper c t val s)
+      = phase-ends (topRate c * t) rateHours moving (omega arith) c (untilPhase x y) (factor-some (topRate c) t moving) (omega arith)
+      (until-starts c x y) (rounds-run refl r) s in-range small in
+      record { below = p .below; above = p .above; near = omega (arith, p .near) }
 
-  -- one reading, and what it leaves of 1
-  reading-bounds : (x y : ℕ → Bool) (val left : ℕ → ℕ → ℕ) → Rounds c (untilPhase x y) val → Rounds c (complement (untilPhase x y)) left
-      → Bounds c t x y s (summedEnd c t val s) (summedEnd c t left s)
-  unfolding load depth
-  reading-bounds x y val left r r' =
-      record {
-        kept = phase-below (topRate c * t) rateHours moving (omega arith) c (untilPhase x y) val s rate (omega arith) in-range
-            (λ u l. omega (arith, r .start u l)) (r .next);
-        missed = phase-below (topRate c * t) rateHours moving (omega arith) c (complement (untilPhase x y)) left s rate (omega arith) in-range
-            (λ u l. omega (arith, r' .start u l)) (r' .next);
-        together = together (untilPhase x y) (complement (untilPhase x y)) val left (until-opposite c x y) r r';
-      }
+  lower-small : (x y : ℕ → Bool) (val : ℕ → ℕ → ℕ) → Rounds c (untilPhase x y) val → summedLower c t val s ≤ billion
+  lower-small x y val r =
+      end-most (topRate c * t) rateHours (topRate c * t / rateHours) (depth c t) (λ k. val k s)
+      (λ k i. rounds-most c (untilPhase x y) val (λ u l. bit-most (y u)) r k s in-range)
 
-  end-small : (ph : Phase) (val : ℕ → ℕ → ℕ) → ((u : ℕ) → u < c .states → ph .start u ≤ 1) → Rounds c ph val → summedEnd c t val s ≤ billion
-  end-small ph val h r =
-      end-most (topRate c * t) rateHours (topRate c * t / rateHours) (depth c t) (λ k. val k s) (λ k i. rounds-most c ph val h r k s in-range)
+  same-upper : (ph : Phase) (val high : ℕ → ℕ → ℕ) → Rounds c ph val → Rounds c ph high → summedUpper c t val s ≡ summedUpper c t high s
+  same-upper ph val high r r' =
+      ap (λ (x : ℕ). billion - x)
+      (left-same (topRate c * t) rateHours (topRate c * t / rateHours) (depth c t) 0 (λ k. val k s) (λ k. high k s)
+      (λ k i. rounds-same c ph val r k s in-range ∙ sym (rounds-same c ph high r' k s in-range)))
 
-  -- The two sums of the code are val and left. The rules bind each reading by both of its sides, and the other two sums are those that the
-  -- same reckoning would find.
-  pub summed-ends : (v w : ℕ → Verdict) (val left : ℕ → ℕ → ℕ) → Rounds c (untilPhase (least v) (least w)) val
-      → Rounds c (complement (untilPhase (most v) (most w))) left → (w s ≡ Yes → ⊥) → (v s ≡ No → w s ≡ No → ⊥)
-      → EndsAt c t v w s (summedEnd c t val s) (billion - summedEnd c t left s)
-  summed-ends v w val left r r' not-certain not-impossible =
-      let low : Phase = untilPhase (least v) (least w) in
-      let high : Phase = untilPhase (most v) (most w) in
-      ends-summed c t v w s (summedEnd c t val s) (summedEnd c t (rounded c (complement low)) s) (summedEnd c t (rounded c high) s)
-      (summedEnd c t left s) in-range
-      (reading-bounds (least v) (least w) val (rounded c (complement low)) r (rounded-rounds c (complement low)))
-      (reading-bounds (most v) (most w) (rounded c high) left (rounded-rounds c high) r')
-      (λ d e. together low (complement high) val left (decided-opposite c v w d e) r r')
-      (end-small low val (λ u l. bit-most (asNo (w u))) r)
-      (end-small (complement high) left (λ u l. omega arith) r')
+  -- Of the reading with undecided as no the code takes the lower end, of that with undecided as yes the upper end; each reading is bound
+  -- by both.
+  pub summed-ends : (v w : ℕ → Verdict) (val high : ℕ → ℕ → ℕ) → Rounds c (untilPhase (least v) (least w)) val
+      → Rounds c (untilPhase (most v) (most w)) high → (w s ≡ Yes → ⊥) → (v s ≡ No → w s ≡ No → ⊥)
+      → EndsAt c t v w s (summedLower c t val s) (summedUpper c t high s)
+  summed-ends v w val high r r' not-certain not-impossible =
+      let b = reading-bounds (least v) (least w) val r in
+      ends-summed c t v w s (summedLower c t val s) (summedUpper c t val s) (summedLower c t high s) (summedUpper c t high s)
+      b (reading-bounds (most v) (most w) high r')
+      (λ d e. rw (← same-upper (untilPhase (least v) (least w)) val high r (decided-rounds c v w d e high r')) (b .near))
+      (lower-small (least v) (least w) val r)
+      (omega arith)
       (λ z. omega arith) not-certain not-impossible

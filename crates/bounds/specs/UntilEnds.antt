@@ -10,19 +10,18 @@ use Rattle.csl.specs.Chain.{Chain, topRate, depth}
 use Rattle.csl.specs.Phase.{bit, untilPhase}
 use Rattle.csl.specs.Verdicts.{Verdict, No, Yes, Undecided, asNo, asYes, least, most}
 use Rattle.csl.specs.Ends.{EndsAt}
-use Rattle.csl.specs.Laws.Complement.{complement}
 use Rattle.csl.specs.Laws.Ends.{ordered}
 use Rattle.csl.specs.Laws.PointEnds.{ends-certain, ends-impossible, ends-still}
 use Rattle.bounds.specs.Width.{mostDepth}
 use Rattle.bounds.specs.Values.{Rounds, pointed, lowerOf, upperOf}
-use Rattle.bounds.specs.Reading.{summedEnd, summed-ends}
+use Rattle.bounds.specs.Reading.{summedLower, summedUpper, summed-ends}
 
 -- the ends at state s of an until over t hours, from the rounded values of its two phases; v and w are the operands' verdicts
 abbrev pub untilLower : Chain → ℕ → (v w : ℕ → Verdict) (val : ℕ → ℕ → ℕ) → ℕ → ℕ
 untilLower c t v w val s = lowerOf (topRate c * t) rateHours (depth c t) (v s) (w s) (λ k. val k s)
 
-abbrev pub untilUpper : Chain → ℕ → (v w : ℕ → Verdict) (left : ℕ → ℕ → ℕ) → ℕ → ℕ
-untilUpper c t v w left s = upperOf (topRate c * t) rateHours (depth c t) (v s) (w s) (λ k. left k s)
+abbrev pub untilUpper : Chain → ℕ → (v w : ℕ → Verdict) (high : ℕ → ℕ → ℕ) → ℕ → ℕ
+untilUpper c t v w high s = upperOf (topRate c * t) rateHours (depth c t) (v s) (w s) (λ k. high k s)
 
 -- no state has two verdicts
 abbrev place : Verdict → ℕ
@@ -44,27 +43,27 @@ module _ (c : Chain) (t s : ℕ) (v w : ℕ → Verdict) (in-range : s < c .stat
   point-ends Undecided No lower upper e f h = h (λ i. differ i f λ z. omega arith) (λ i j. differ i e λ z. omega arith)
   point-ends x Undecided lower upper e f h = h (λ i. differ i f λ z. omega arith) (λ i j. differ j f λ z. omega arith)
 
-  module _ (val left : ℕ → ℕ → ℕ) (small : depth c t ≤ mostDepth) (r : 0 < topRate c * t → Rounds c (untilPhase (least v) (least w)) val)
-      (r' : 0 < topRate c * t → Rounds c (complement (untilPhase (most v) (most w))) left) where
+  module _ (val high : ℕ → ℕ → ℕ) (small : depth c t ≤ mostDepth) (r : 0 < topRate c * t → Rounds c (untilPhase (least v) (least w)) val)
+      (r' : 0 < topRate c * t → Rounds c (untilPhase (most v) (most w)) high) where
     -- with load 0 the exact values, else the sums
     still-ends : (z : Bool) → eqb (topRate c * t) 0 ≡ z → (w s ≡ Yes → ⊥) → (v s ≡ No → w s ≡ No → ⊥)
-        → EndsAt c t v w s (cond z (billion * bit (asNo (w s))) (summedEnd c t val s))
-        (cond z (billion * bit (asYes (w s))) (billion - summedEnd c t left s))
+        → EndsAt c t v w s (cond z (billion * bit (asNo (w s))) (summedLower c t val s))
+        (cond z (billion * bit (asYes (w s))) (summedUpper c t high s))
     still-ends true e i j = ends-still c t v w s in-range (eqb-true _ _ e)
     still-ends false e i j =
         let n : topRate c * t ≡ 0 → ⊥ = eqb-false _ _ e in
         let p : 0 < topRate c * t = omega arith in
-        summed-ends c t s in-range small p v w val left (r p) (r' p) i j
+        summed-ends c t s in-range small p v w val high (r p) (r' p) i j
 
     -- the ends keep every rule
-    pub until-ends : EndsAt c t v w s (untilLower c t v w val s) (untilUpper c t v w left s)
+    pub until-ends : EndsAt c t v w s (untilLower c t v w val s) (untilUpper c t v w high s)
     until-ends = point-ends (v s) (w s) _ _ refl refl (still-ends (eqb (topRate c * t) 0) refl)
 
     pub until-lower-most : untilLower c t v w val s ≤ billion
     until-lower-most = until-ends .lower-range
 
-    pub until-upper-most : untilUpper c t v w left s ≤ billion
+    pub until-upper-most : untilUpper c t v w high s ≤ billion
     until-upper-most = until-ends .upper-range
 
-    pub until-ordered : untilLower c t v w val s ≤ untilUpper c t v w left s
+    pub until-ordered : untilLower c t v w val s ≤ untilUpper c t v w high s
     until-ordered = ordered c t v w s _ _ in-range until-ends

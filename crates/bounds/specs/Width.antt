@@ -1,15 +1,18 @@
--- The lower ends of a phase and of what it leaves of 1 are together at most 4 × D short of 1, to depth 1023. Assumes nothing.
+-- The two ends of a phase, from one run of its values, are at most 4 × D apart to depth 1023, and e units more where the values lacked e
+-- at step 0. Assumes nothing.
 use mathlib.Core.Path.{_≡_, refl}
 use Prim.Native.Nat.{ℕ, zero, suc, _+_, _*_, _-_, _/_, _^_, _≤_, _<_}
 use native.Mathlib.Omega.{arith}
-use native.Mathlib.Nat.{mul-pos, pow-suc, add-zero, add-suc, le-of-mul-le-mul-right}
+use native.Mathlib.Nat.{mul-pos, pow-suc, add-zero, add-suc, le-of-mul-le-mul-right, lt-of-lt-of-le}
 use borrow.Author.Tests.{le-ltb}
 use Rattle.numbers.specs.Hint.{le-times, div-low, div-high}
 use Rattle.csl.specs.Limits.{billion}
 use Rattle.csl.specs.Chain.{sumTo}
 use Rattle.bounds.specs.Ladder.{ladder}
 use Rattle.bounds.specs.Weight.{peak, low, apart, Middle, low-most}
-use Rattle.bounds.specs.Ends.{one, total, part, gathered, lowerEnd, total-peak}
+use Rattle.bounds.specs.Unit.{unit, one, scale, grain, part}
+use Rattle.bounds.specs.Ends.{total, gathered, lowerEnd, total-peak}
+use Rattle.bounds.specs.Upper.{gatherable, leftEnd, upperEnd}
 
 -- how deep the sums are taken at most, so that they fit 64 bits
 abbrev pub mostDepth : ℕ
@@ -52,51 +55,74 @@ unfolding sumTo
 sums-le a b m zero = omega arith
 sums-le a b m (suc n) = omega (arith, sums-le a b m n)
 
--- what the two sides gather is little less than the sum of the lower weights; first one term
-term-gap : (w v u e k d : ℕ) → e ≤ v + u + k → k ≤ d → w * e ≤ (part w v + part w u + 2) * 4194304 + w * d
-term-gap w v u e k d h l =
-    omega (arith, div-high (w * v) {y = 4194304} (omega arith), div-high (w * u) {y = 4194304} (omega arith), le-times w h, le-times w l)
+-- what can be gathered is little less than the sum of the lower weights, where values are at most x + k too low; first one term
+term-gap : (w o x k d : ℕ) → k ≤ d → w * o ≤ (part w (o - (x + k)) + 1) * grain + w * (d + x)
+term-gap w o x k d l =
+    let h : o ≤ o - (x + k) + (d + x) = omega arith in
+    omega (arith, div-high (w * (o - (x + k))) {y = grain} (omega arith), le-times w h)
 
-gathered-gap : (w v u : ℕ → ℕ) (e d n : ℕ) → ((k : ℕ) → e ≤ v k + u k + k) → n ≤ suc d
-    → sumTo w n * e ≤ (sumTo (λ k. part (w k) (v k)) n + sumTo (λ k. part (w k) (u k)) n + 2 * n) * 4194304 + sumTo w n * d
+gathered-gap : (w : ℕ → ℕ) (o x d n : ℕ) → n ≤ suc d
+    → sumTo w n * o ≤ (sumTo (λ k. part (w k) (o - (x + k))) n + n) * grain + sumTo w n * (d + x)
 unfolding sumTo
-gathered-gap w v u e d zero h l = omega arith
-gathered-gap w v u e d (suc n) h l =
-    omega (arith, gathered-gap w v u e d n h (omega arith), term-gap (w n) (v n) (u n) e n d (h n) (omega arith))
+gathered-gap w o x d zero l = omega arith
+gathered-gap w o x d (suc n) l =
+    omega (arith, gathered-gap w o x d n (omega arith), term-gap (w n) o x n d (omega arith))
 
--- the two ends miss 1 by at most 4 * d billionths, over variables: t the total, w the sum of the lower weights, g and h what was gathered
-ends-gap : (l l' g h t w d e : ℕ) → peak ≤ t → 40 ≤ d → d ≤ mostDepth
-    → g * 65536 < (l + 1) * t → h * 65536 < (l' + 1) * t
-    → w * one ≤ (g + h + 2 * suc d) * 4194304 + w * d
+-- all roundings together are at most 4 * d billionths of the total t: w the sum of the lower weights, e what the total is above it
+roundings : (t w d e : ℕ) → peak ≤ t → 40 ≤ d → d ≤ mostDepth → w ≤ t → e ≤ d * d + 3 * d + 1
+    → 2 * unit * t + 2 * suc d * grain + w * d + one * e ≤ 4 * unit * (d * t)
+roundings t w d e p d40 deep wt eb = omega (arith, le-times d wt, le-times t d40, le-times d p, le-times d deep)
+
+-- the two ends miss 1 by at most 4 * d billionths and x units, over variables: g and h what was gathered and what was left, y for w * x
+ends-short : (l l' g h t w d e y : ℕ) → 2 * unit * t + 2 * suc d * grain + w * d + one * e ≤ 4 * unit * (d * t)
+    → g * scale < (l + 1) * t → h * scale < (l' + 1) * t
+    → w * one ≤ (g + h + 2 * suc d) * grain + w * d + y → t ≤ w + e
+    → one * t ≤ (l + l' + 4 * d) * unit * t + y
+ends-short l l' g h t w d e y r i j k tw = omega arith
+
+ends-joined : (t c x y : ℕ) → one * t ≤ c * unit * t + y → y ≤ t * x → one * t ≤ (c * unit + x) * t
+ends-joined t c x y h k = omega arith
+
+ends-gap : (l l' g h t w d e x : ℕ) → peak ≤ t → 40 ≤ d → d ≤ mostDepth
+    → g * scale < (l + 1) * t → h * scale < (l' + 1) * t
+    → w * one ≤ (g + h + 2 * suc d) * grain + w * d + w * x
     → w ≤ t → t ≤ w + e → e ≤ d * d + 3 * d + 1
-    → billion ≤ l + l' + 4 * d
-ends-gap l l' g h t w d e p d40 deep i j k wt tw eb =
-    le-of-mul-le-mul-right {k = t * 64}
-    (omega (arith, le-times d wt, le-times t d40, le-times d p, le-times d deep))
-    (omega arith)
+    → one ≤ (l + l' + 4 * d) * unit + x
+ends-gap l l' g h t w d e x p d40 deep i j k wt tw eb =
+    le-of-mul-le-mul-right {k = t}
+    (ends-joined t (l + l' + 4 * d) x (w * x)
+    (ends-short l l' g h t w d e (w * x) (roundings t w d e p d40 deep wt eb) i j k tw)
+    (le-times x wt))
+    (lt-of-lt-of-le (omega arith) p)
 
--- two sides of 1: values v and u that together miss 1 by at most k 64ths of a billionth at step k
-pub record Sides (a b m r : ℕ) (v u : ℕ → ℕ) : Type 0 where
+-- a load whose weights are halved from r on, not too deep
+pub record Halved (a b m r : ℕ) : Type 0 where
   pub middle : Middle a b m
   pub early : m ≤ r
   pub halves : 2 * a ≤ suc r * b
   pub small : r + 40 ≤ mostDepth
-  pub values : (k : ℕ) → one ≤ v k + u k + k
 
-pub width : {a b m r : ℕ} {v u : ℕ → ℕ} → Sides a b m r v u → billion ≤ lowerEnd a b m (r + 40) v + lowerEnd a b m (r + 40) u + 4 * (r + 40)
-unfolding lowerEnd gathered total sumTo
-width {a} {b} {m} {r} {v} {u} p =
-    let deep : m ≤ r + 40 = omega (arith, p .early) in
-    let t : 0 < total a b m (r + 40) = omega (arith, total-peak a b m (r + 40) deep) in
-    let apart-last : apart m (r + 40) ≤ r + 40 = omega arith in
-    ends-gap (lowerEnd a b m (r + 40) v) (lowerEnd a b m (r + 40) u) (gathered a b m (r + 40) v) (gathered a b m (r + 40) u)
-    (total a b m (r + 40)) (sumTo (low a b m) (suc (r + 40))) (r + 40) (suc (r + 40) * (r + 40) + (1 + (r + 40)))
-    (total-peak a b m (r + 40) deep)
-    (omega arith)
-    (p .small)
-    (div-high (gathered a b m (r + 40) v * 65536) t)
-    (div-high (gathered a b m (r + 40) u * 65536) t)
-    (gathered-gap (low a b m) v u one (r + 40) (suc (r + 40)) (p .values) (omega arith))
-    (omega (arith, sums-le a b m (suc (r + 40))))
-    (omega (arith, total-sum a b m (suc (r + 40)) (r + 40) deep (omega arith), low-last a b m r (p .middle) (p .early) (p .halves), apart-last))
-    (omega arith)
+module _ {a b m r : ℕ} (x : ℕ) (v : ℕ → ℕ) (p : Halved a b m r) where
+  -- the lower end and what is left of 1, whatever the values
+  short : one ≤ (lowerEnd a b m (r + 40) v + leftEnd a b m (r + 40) x v + 4 * (r + 40)) * unit + x
+  unfolding lowerEnd leftEnd gatherable total sumTo
+  short =
+      let deep : m ≤ r + 40 = omega (arith, p .early) in
+      let t : 0 < total a b m (r + 40) = omega (arith, total-peak a b m (r + 40) deep) in
+      let apart-last : apart m (r + 40) ≤ r + 40 = omega arith in
+      ends-gap (lowerEnd a b m (r + 40) v) (leftEnd a b m (r + 40) x v) (gathered a b m (r + 40) v)
+      (gatherable a b m (r + 40) x - gathered a b m (r + 40) v)
+      (total a b m (r + 40)) (sumTo (low a b m) (suc (r + 40))) (r + 40) (suc (r + 40) * (r + 40) + (1 + (r + 40))) x
+      (total-peak a b m (r + 40) deep)
+      (omega arith)
+      (p .small)
+      (div-high (gathered a b m (r + 40) v * scale) t)
+      (div-high ((gatherable a b m (r + 40) x - gathered a b m (r + 40) v) * scale) t)
+      (omega (arith, gathered-gap (low a b m) one x (r + 40) (suc (r + 40)) (omega arith)))
+      (omega (arith, sums-le a b m (suc (r + 40))))
+      (omega (arith, total-sum a b m (suc (r + 40)) (r + 40) deep (omega arith), low-last a b m r (p .middle) (p .early) (p .halves), apart-last))
+      (omega arith)
+
+  -- the two ends
+  pub width : upperEnd a b m (r + 40) x v * unit ≤ (lowerEnd a b m (r + 40) v + 4 * (r + 40)) * unit + x
+  width = omega (arith, short)

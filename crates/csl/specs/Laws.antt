@@ -8,7 +8,7 @@ pub mod Quotient
 pub mod Point
 pub mod Readings
 pub mod Tail
-pub mod Complement
+pub mod Left
 pub mod Ends
 pub mod PointEnds
 pub mod Enclosure

@@ -7,14 +7,13 @@ use lib.ListN.{length}
 use Rattle.csl.specs.Chain.{Chain}
 use Rattle.csl.specs.Phase.{untilPhase}
 use Rattle.csl.specs.Verdicts.{Verdict, least, most}
-use Rattle.csl.specs.Laws.Complement.{complement}
 use Rattle.bounds.specs.Values.{Rounds, verdictAt}
 use Rattle.bounds.specs.Found.{lowerFound, upperFound, lower-found, upper-found}
 use Rattle.rows.specs.Words.{at, topOf}
 use Rattle.rows.specs.Shown.{Shows}
-use Rattle.step.specs.Value.{verdicts, lowPhase, leftPhase, valueOf}
+use Rattle.step.specs.Value.{verdicts, lowPhase, highPhase, valueOf}
 use Rattle.until.specs.Asked.{Until}
-use Rattle.until.specs.Shown.{low-rounds, left-rounds, lower-shown, upper-shown}
+use Rattle.until.specs.Shown.{low-rounds, high-rounds, lower-shown, upper-shown}
 
 -- a row of bytes holds verdicts
 abbrev pub Row : List ℕ → ℕ → (ℕ → Verdict) → Type 0
@@ -29,8 +28,8 @@ module _ (c : Chain) (x y v w : ℕ → Verdict) (h : (s : ℕ) → s < c .state
         next = λ i s l. r .next i s l ∙ rw (h s l, k s l) refl;
       }
 
-  rounds-most : (val : ℕ → ℕ → ℕ) → Rounds c (complement (untilPhase (most x) (most y))) val
-      → Rounds c (complement (untilPhase (most v) (most w))) val
+  rounds-most : (val : ℕ → ℕ → ℕ) → Rounds c (untilPhase (most x) (most y)) val
+      → Rounds c (untilPhase (most v) (most w)) val
   rounds-most val r =
       record {
         start = λ s l. r .start s l ∙ rw (k s l) refl;
@@ -55,5 +54,5 @@ module _ {c : Chain} {mv first second l₀ l : List ℕ} {n q t d : ℕ} (p : Sh
       let i : s < c .states = omega (arith, p .states) in
       upper-shown p e u s b
       ∙ rw (h s b, k s b)
-      (upper-found c t v w (valueOf mv (length mv) q (leftPhase first second)) s i
-      (λ z. rounds-most c (verdicts first) (verdicts second) v w (λ g m. h g (here g m)) (λ g m. k g (here g m)) _ (left-rounds p e u)))
+      (upper-found c t v w (valueOf mv (length mv) q (highPhase first second)) s i
+      (λ z. rounds-most c (verdicts first) (verdicts second) v w (λ g m. h g (here g m)) (λ g m. k g (here g m)) _ (high-rounds p e u)))

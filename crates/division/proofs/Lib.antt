@@ -1,4 +1,2 @@
 -- Laws behind the proofs of `division`.
 pub mod MulDivLaw
-pub mod NewLaw
-pub mod QuotientLaw

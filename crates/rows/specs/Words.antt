@@ -54,14 +54,14 @@ flow mv m v s = sumTo (outOf mv s (pull mv v)) m
 unfoldable pub rowOf : List ℕ → ℕ → ℕ → ℕ
 rowOf mv m s = sumTo (beforeOf mv s (λ j. 1)) m
 
--- what is asked of the words: they name states below n, and rise by the state that they leave; no state is left faster than at 256,000,000
+-- what is asked of the words: they name states below n, and rise by the state that they leave; no state is left faster than at 64,000,000
 pub record Lines (mv : List ℕ) (m n : ℕ) : Type 0 where
   pub states : n ≤ 512
   pub few : m ≤ 1048576
   pub sources : (j : ℕ) → j < m → fromOf mv j < n
   pub targets : (j : ℕ) → j < m → toOf mv j < n
   pub rising : (i j : ℕ) → i ≤ j → j < m → fromOf mv i ≤ fromOf mv j
-  pub limit : (s : ℕ) → s < n → exitOf mv m s ≤ 256000000
+  pub limit : (s : ℕ) → s < n → exitOf mv m s ≤ 64000000
 
 -- A slice with the exit rates of n states, then the ends of their rows, of the words of a list; what lies beyond is as it was.
 pub record Rows (mv : List ℕ) (n : ℕ) (l₀ l : List ℕ) : Type 0 where

@@ -1,5 +1,4 @@
 -- Laws behind the proofs of `step`.
-pub mod ByteLaw
 pub mod RowLaw
 pub mod StateLaw
 pub mod StepLaw

@@ -9,39 +9,35 @@ use lib.Seq.{getD-set-same, getD-set-other}
 use borrow.Author.Count.{below-more}
 use mir.Val.{Fits}
 use mir.Syntax.{w64}
-use Rattle.division.specs.declared.Divisor.{Divisor}
 use Rattle.rows.specs.Words.{at, rowOf}
 use Rattle.rows.specs.Sorted.{row-zero, row-most}
-use Rattle.step.specs.declared.Sums.{Sums}
-use Rattle.step.specs.Value.{lowPhase, leftPhase, next, leftOf}
+use Rattle.step.specs.Value.{next, valuesAt, nextAt, kindsAt}
 use Rattle.step.specs.Bound.{next-cong}
-use Rattle.step.specs.Asked.{Sheet, StepAsked, StateAsked, StateDone, Stepped}
+use Rattle.step.specs.Asked.{Sheet, StepAsked, StateAsked, Stepped}
 
-pub record Inv (mv l₀ l first second : List ℕ) (d : Divisor) (n begin s : ℕ) : Type 0 where
-  pub asked : StepAsked mv l₀ first second d n
+pub record Inv (mv l₀ l : List ℕ) (n q begin s : ℕ) : Type 0 where
+  pub asked : StepAsked mv l₀ n q
   pub within : s ≤ n
   pub begins : begin ≡ rowOf mv (length mv) s
   pub same : length l ≡ length l₀
-  pub lower : (g : ℕ) → g < s → at l (2 * n + g) ≡ next mv (length mv) (d .by) (lowPhase first second) (at l₀) g
-  pub left : (g : ℕ) → g < s → at l (3 * n + g) ≡ next mv (length mv) (d .by) (leftPhase first second) (leftOf l₀ n) g
-  pub before : (k : ℕ) → k < 2 * n → at l k ≡ at l₀ k
+  pub values : (g : ℕ) → g < s → nextAt l n g ≡ next mv (length mv) q (kindsAt l₀ n) (valuesAt l₀ n) g
+  pub before : (k : ℕ) → k < 3 * n → at l k ≡ at l₀ k
   pub after : (k : ℕ) → 4 * n ≤ k → at l k ≡ at l₀ k
 
-pub start : {mv l first second : List ℕ} {d : Divisor} {n : ℕ} → StepAsked mv l first second d n → Inv mv l l first second d n 0 0
+pub start : {mv l : List ℕ} {n q : ℕ} → StepAsked mv l n q → Inv mv l l n q 0 0
 start {mv} p =
     record {
       asked = p;
       within = omega arith;
       begins = sym (row-zero mv (length mv));
       same = refl;
-      lower = λ g h. absurd (omega arith);
-      left = λ g h. absurd (omega arith);
+      values = λ g h. absurd (omega arith);
       before = λ k h. refl;
       after = λ k h. refl;
     }
 
-module _ {mv l₀ l first second : List ℕ} {d : Divisor} {n begin s : ℕ} (v : Inv mv l₀ l first second d n begin s) (h : s < n) where
-  sheet : Sheet mv l₀ n (d .by)
+module _ {mv l₀ l : List ℕ} {n q begin s : ℕ} (v : Inv mv l₀ l n q begin s) (h : s < n) where
+  sheet : Sheet mv l₀ n q
   sheet = v .asked .sheet
 
   pub ends-index : Fits w64 (7 * n)
@@ -50,17 +46,11 @@ module _ {mv l₀ l first second : List ℕ} {d : Divisor} {n begin s : ℕ} (v 
   pub ends-index-s : Fits w64 (7 * n + s)
   ends-index-s = omega (arith, sheet .lines .states)
 
-  pub lower-index : Fits w64 (2 * n)
-  lower-index = omega (arith, sheet .lines .states)
+  pub next-index : Fits w64 (3 * n)
+  next-index = omega (arith, sheet .lines .states)
 
-  pub lower-index-s : Fits w64 (2 * n + s)
-  lower-index-s = omega (arith, sheet .lines .states)
-
-  pub left-index : Fits w64 (3 * n)
-  left-index = omega (arith, sheet .lines .states)
-
-  pub left-index-s : Fits w64 (3 * n + s)
-  left-index-s = omega (arith, sheet .lines .states)
+  pub next-index-s : Fits w64 (3 * n + s)
+  next-index-s = omega (arith, sheet .lines .states)
 
   pub next-fits : Fits w64 (s + 1)
   next-fits = omega (arith, sheet .lines .states)
@@ -68,11 +58,8 @@ module _ {mv l₀ l first second : List ℕ} {d : Divisor} {n begin s : ℕ} (v 
   pub in-ends : 7 * n + s < length l
   in-ends = omega (arith, v .same, sheet .room)
 
-  pub in-lower : 2 * n + s < length l
-  in-lower = omega (arith, v .same, sheet .room)
-
-  pub in-left : (x : ℕ) → 3 * n + s < length (set l (2 * n + s) x)
-  in-left x = rw (length-set l (2 * n + s) x) (omega (arith, v .same, sheet .room))
+  pub in-next : 3 * n + s < length l
+  in-next = omega (arith, v .same, sheet .room)
 
   -- the row's end, as read
   end-is : at l (7 * n + s) ≡ rowOf mv (length mv) (suc s)
@@ -81,7 +68,7 @@ module _ {mv l₀ l first second : List ℕ} {d : Divisor} {n begin s : ℕ} (v 
   pub end-fits : Fits w64 (at l (7 * n + s))
   end-fits = omega (arith, end-is, row-most mv (length mv) (suc s), sheet .lines .few)
 
-  pub may-state : StateAsked mv l first second d n s begin (at l (7 * n + s))
+  pub may-state : StateAsked mv l n q s begin (at l (7 * n + s))
   may-state =
       record {
         all = record {
@@ -94,79 +81,59 @@ module _ {mv l₀ l first second : List ℕ} {d : Divisor} {n begin s : ℕ} (v 
             some = sheet .some;
             small = sheet .small;
           };
-          divisor = v .asked .divisor;
-          in-first = v .asked .in-first;
-          in-second = v .asked .in-second;
-          lower = λ g b. rw (v .before g (omega arith)) (v .asked .lower g b);
-          left = λ g b. rw (v .before (n + g) (omega arith)) (v .asked .left g b);
+          values = λ g b. rw (v .before (2 * n + g) (omega arith)) (v .asked .values g b);
         };
         here = h;
         begins = v .begins;
         ends = end-is;
       }
 
-  module _ {r : Sums} (u : StateDone mv l first second (d .by) n s r) where
-    lower-is : r .lower ≡ next mv (length mv) (d .by) (lowPhase first second) (at l₀) s
-    lower-is =
-        u .lower
-        ∙ next-cong mv (length mv) n (d .by) (sheet .lines .targets) (lowPhase first second) (at l) (at l₀) (λ g b. v .before g (omega arith)) s h
+  module _ {r : ℕ} (u : r ≡ next mv (length mv) q (kindsAt l n) (valuesAt l n) s) where
+    value-is : r ≡ next mv (length mv) q (kindsAt l₀ n) (valuesAt l₀ n) s
+    value-is =
+        u
+        ∙ next-cong mv (length mv) n q (sheet .lines .targets) (kindsAt l n) (kindsAt l₀ n) (valuesAt l n) (valuesAt l₀ n)
+        (λ g b. v .after (5 * n + g) (omega arith)) (λ g b. v .before (2 * n + g) (omega arith)) s h
 
-    left-is : r .left ≡ next mv (length mv) (d .by) (leftPhase first second) (leftOf l₀ n) s
-    left-is =
-        u .left
-        ∙ next-cong mv (length mv) n (d .by) (sheet .lines .targets) (leftPhase first second) (leftOf l n) (leftOf l₀ n)
-        (λ g b. v .before (n + g) (omega arith)) s h
+    -- a word that is not the one stored
+    others : (k : ℕ) → (k ≡ 3 * n + s → ⊥) → at (set l (3 * n + s) r) k ≡ at l k
+    others k a = getD-set-other l (3 * n + s) k r 0 a
 
-    -- a word that is not one of the two stored
-    others : (k : ℕ) → (k ≡ 2 * n + s → ⊥) → (k ≡ 3 * n + s → ⊥) → at (set (set l (2 * n + s) (r .lower)) (3 * n + s) (r .left)) k ≡ at l k
-    others k a b =
-        getD-set-other (set l (2 * n + s) (r .lower)) (3 * n + s) k (r .left) 0 b
-        ∙ getD-set-other l (2 * n + s) k (r .lower) 0 a
-
-    pub turn : Inv mv l₀ (set (set l (2 * n + s) (r .lower)) (3 * n + s) (r .left)) first second d n (at l (7 * n + s)) (s + 1)
+    pub turn : Inv mv l₀ (set l (3 * n + s) r) n q (at l (7 * n + s)) (s + 1)
     turn =
         record {
           asked = v .asked;
           within = omega arith;
           begins = rw add-one end-is;
-          same = length-set (set l (2 * n + s) (r .lower)) (3 * n + s) (r .left) ∙ length-set l (2 * n + s) (r .lower) ∙ v .same;
-          lower = below-more _ s
-              (λ g b. others (2 * n + g) (omega arith) (omega arith) ∙ v .lower g b)
-              (getD-set-other (set l (2 * n + s) (r .lower)) (3 * n + s) (2 * n + s) (r .left) 0 (omega arith)
-              ∙ getD-set-same l (2 * n + s) (r .lower) 0 in-lower ∙ lower-is);
-          left = below-more _ s
-              (λ g b. others (3 * n + g) (omega arith) (omega arith) ∙ v .left g b)
-              (getD-set-same (set l (2 * n + s) (r .lower)) (3 * n + s) (r .left) 0 (in-left (r .lower)) ∙ left-is);
-          before = λ k b. others k (omega arith) (omega arith) ∙ v .before k b;
-          after = λ k b. others k (omega arith) (omega arith) ∙ v .after k b;
+          same = length-set l (3 * n + s) r ∙ v .same;
+          values = below-more _ s
+              (λ g b. others (3 * n + g) (omega arith) ∙ v .values g b)
+              (getD-set-same l (3 * n + s) r 0 in-next ∙ value-is);
+          before = λ k b. others k (omega arith) ∙ v .before k b;
+          after = λ k b. others k (omega arith) ∙ v .after k b;
         }
 
-pub finish : {mv l₀ l first second : List ℕ} {d : Divisor} {n begin s : ℕ} → Inv mv l₀ l first second d n begin s → n ≤ s
-    → Stepped mv first second (d .by) n l₀ l
+pub finish : {mv l₀ l : List ℕ} {n q begin s : ℕ} → Inv mv l₀ l n q begin s → n ≤ s → Stepped mv n q l₀ l
 finish v h =
     record {
       same = v .same;
-      lower = λ g b. v .lower g (omega arith);
-      left = λ g b. v .left g (omega arith);
+      values = λ g b. v .values g (omega arith);
       before = v .before;
       after = v .after;
     }
 
-pub finish-length : {mv l₀ l first second : List ℕ} {d : Divisor} {n begin s : ℕ} → Inv mv l₀ l first second d n begin s → length l ≡ length l₀
+pub finish-length : {mv l₀ l : List ℕ} {n q begin s : ℕ} → Inv mv l₀ l n q begin s → length l ≡ length l₀
 finish-length v = v .same
 
 pub ruleset step-laws = (
   start,
   ends-index,
   ends-index-s,
-  lower-index,
-  lower-index-s,
-  left-index,
-  left-index-s,
+  next-index,
+  next-index-s,
   next-fits,
   in-ends,
-  in-lower,
-  in-left,
+  in-next,
   end-fits,
   may-state,
   turn,

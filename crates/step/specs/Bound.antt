@@ -6,14 +6,13 @@ use Prim.Native.Nat.{ℕ, zero, suc, _*_, _-_, _/_, _≤_, _<_}
 use native.Mathlib.Omega.{arith}
 use native.Mathlib.Nat.{sub-add-cancel, div-le-of-le-mul}
 use lib.Dec.{eqb}
-use Rattle.csl.specs.Phase.{Phase, bit}
+use Rattle.csl.specs.Phase.{bit}
 use Rattle.numbers.specs.Hint.{le-times, eq-times}
 use Rattle.numbers.specs.Sum.{sum-le, sum-scale}
-use Rattle.bounds.specs.Ends.{one}
-use Rattle.bounds.specs.Values.{settled}
+use Rattle.bounds.specs.Unit.{one}
 use Rattle.rows.specs.Words.{fromOf, toOf, rateOf, outOf, exitOf, pull, flow}
 use Rattle.rows.specs.Lines.{flow-cong}
-use Rattle.step.specs.Value.{mixed, next, valueOf}
+use Rattle.step.specs.Value.{held, mixed, next, runOf}
 
 -- a start of until is 0 or 1
 pub bit-most : (b : Bool) → bit b ≤ 1
@@ -46,24 +45,34 @@ module _ (mv : List ℕ) (m n q : ℕ) (targets : (j : ℕ) → j < m → toOf m
         eq-times one (sub-add-cancel slow),
       )
 
-  settled-most : (o z : Bool) (x : ℕ) → x ≤ one → settled o z x ≤ one
-  settled-most true z x h = omega arith
-  settled-most false true x h = omega arith
-  settled-most false false x h = h
+  held-most : (kind x : ℕ) → x ≤ one → held kind x ≤ one
+  held-most kind x h = by (eqb kind 2) (eqb kind 0)
+    where
+      by : (a b : Bool) → cond a one (cond b 0 x) ≤ one
+      by true b = omega arith
+      by false true = omega arith
+      by false false = h
 
-  pub next-most : (ph : Phase) (v : ℕ → ℕ) → ((g : ℕ) → g < n → v g ≤ one) → (s : ℕ) → s < n → exitOf mv m s ≤ q → next mv m q ph v s ≤ one
+  pub next-most : (kind v : ℕ → ℕ) → ((g : ℕ) → g < n → v g ≤ one) → (s : ℕ) → s < n → exitOf mv m s ≤ q → next mv m q kind v s ≤ one
   unfolding next
-  next-most ph v k s h slow =
-      settled-most (ph .one s) (ph .nil s) (mixed mv m q v s / q)
-      (div-le-of-le-mul q (omega (arith, mixed-most v k s h slow)))
+  next-most kind v k s h slow =
+      held-most (kind s) (mixed mv m q v s / q) (div-le-of-le-mul q (omega (arith, mixed-most v k s h slow)))
 
-  pub value-most : (ph : Phase) → ((s : ℕ) → s < n → ph .start s ≤ 1) → ((s : ℕ) → s < n → exitOf mv m s ≤ q) → (k s : ℕ) → s < n
-      → valueOf mv m q ph k s ≤ one
-  unfolding valueOf
-  value-most ph i slow zero s h = omega (arith, i s h)
-  value-most ph i slow (suc k) s h = next-most ph (valueOf mv m q ph k) (λ g l. value-most ph i slow k g l) s h (slow s h)
+  pub run-most : (start kind : ℕ → ℕ) → ((s : ℕ) → s < n → start s ≤ one) → ((s : ℕ) → s < n → exitOf mv m s ≤ q) → (k s : ℕ) → s < n
+      → runOf mv m q start kind k s ≤ one
+  unfolding runOf
+  run-most start kind i slow zero s h = i s h
+  run-most start kind i slow (suc k) s h = next-most kind (runOf mv m q start kind k) (run-most start kind i slow k) s h (slow s h)
 
-  -- values that agree on the states step alike
-  pub next-cong : (ph : Phase) (v u : ℕ → ℕ) → ((g : ℕ) → g < n → v g ≡ u g) → (s : ℕ) → s < n → next mv m q ph v s ≡ next mv m q ph u s
+  -- values and kinds that agree on the states step alike
+  pub next-cong : (kind kind' v u : ℕ → ℕ) → ((g : ℕ) → g < n → kind g ≡ kind' g) → ((g : ℕ) → g < n → v g ≡ u g) → (s : ℕ) → s < n
+      → next mv m q kind v s ≡ next mv m q kind' u s
   unfolding next mixed
-  next-cong ph v u e s h = rw (flow-cong mv v u s n m targets e, e s h) refl
+  next-cong kind kind' v u f e s h = rw (flow-cong mv v u s n m targets e, e s h, f s h) refl
+
+  pub run-cong : (start start' kind kind' : ℕ → ℕ) → ((g : ℕ) → g < n → start g ≡ start' g) → ((g : ℕ) → g < n → kind g ≡ kind' g)
+      → (k s : ℕ) → s < n → runOf mv m q start kind k s ≡ runOf mv m q start' kind' k s
+  unfolding runOf
+  run-cong start start' kind kind' e f zero s h = e s h
+  run-cong start start' kind kind' e f (suc k) s h =
+      next-cong kind kind' (runOf mv m q start kind k) (runOf mv m q start' kind' k) f (run-cong start start' kind kind' e f k) s h

@@ -2,5 +2,4 @@
 pub mod Value
 pub mod Asked
 pub mod Bound
-pub mod Bytes
 pub mod Rounded

@@ -1,111 +1,67 @@
-// One step of the values of all states, both sides at once: the lower values, and the lower values of what is left of 1.
+// One step of the values of all states of a phase: each held at 1 or at 0, or moved and rounded down.
 ghost use mathlib.Core.Path.{_≡_};
-ghost use mathlib.Core.Bool.{cond, _&&_};
-ghost use Prim.Native.Nat.{_*_, _/_};
-ghost use lib.Dec.{eqb};
-ghost use Rattle.division.specs.Contract.{InReach};
-ghost use Rattle.step.specs.Asked.{RowAsked, Summed, StateAsked, StateDone, StepAsked, Stepped};
-use division::Divisor;
+ghost use lib.ListN.{length};
+ghost use Rattle.step.specs.Value.{valuesAt, kindsAt, next};
+ghost use Rattle.step.specs.Asked.{RowAsked, Summed, StateAsked, StepAsked, Stepped};
 
-// The value 1, in 64ths of a billionth.
-pub const ONE: u64 = 64000000000;
+// The kinds of states: held at 0, moving, held at 1.
+pub const NIL: u64 = 0;
 
-// A number for each side.
-pub struct Sums {
-    pub lower: u64,
-    pub left: u64,
-}
+pub const MOVES: u64 = 1;
 
-// The words of one row, each side's rates times values added to its sum.
-pub fn row(moves: &[u64], words: &[u64], n: usize, begin: usize, end: usize, sums: Sums) -> Sums
-    requires { ⌜ RowAsked (now moves) (now words) n begin end sums ⌝ }
-    ensures { λ r. ⌜ Summed (now (moves .entry)) (now (words .entry)) n begin end sums r ⌝ }
+pub const CERTAIN: u64 = 2;
+
+// The words of one row, their rates times values added to a sum.
+pub fn row(moves: &[u64], words: &[u64], n: usize, begin: usize, end: usize, own: u64) -> u64
+    requires { ⌜ RowAsked (now moves) (now words) n begin end own ⌝ }
+    ensures { λ r. ⌜ Summed (now (moves .entry)) (now (words .entry)) n begin end own r ⌝ }
 {
-    let mut lower = sums.lower;
-    let mut left = sums.left;
+    let mut sum = own;
     let mut j = begin;
     while j < end {
         let word = moves[j];
         let rate = packing::rate_of(word);
         let to = packing::to_of(word);
-        lower += rate * words[to];
-        left += rate * words[n + to];
+        sum += rate * words[2 * n + to];
         j += 1;
     }
-    Sums {
-        lower: lower,
-        left: left,
-    }
+    sum
 }
 
-// Whether two verdict bytes are both no.
-pub fn both_no(f: u8, g: u8) -> bool
-    ensures { λ r. ⌜ r ≡ (eqb f 0 && eqb g 0) ⌝ }
-{
-    f == 0 && g == 0
-}
-
-// x over the divisor where a verdict byte is the one asked for, else 0.
-pub fn moved_if(byte: u8, asked: u8, d: Divisor, x: u64) -> u64
-    requires { ⌜ InReach d x ⌝ }
-    ensures { λ r. ⌜ r ≡ cond (eqb byte asked) (x / d .by) 0 ⌝ }
-{
-    if byte == asked { d.quotient(x) } else { 0 }
-}
-
-// The values of state s one step on, from those of all states: its own, as much as stays put, and its row's.
+// The value of state s one step on, from those of all states: its own, as much as stays put, and its row's.
 pub fn state(
     moves: &[u64],
     words: &[u64],
-    first: &[u8],
-    second: &[u8],
-    d: Divisor,
     n: usize,
+    q: u64,
     s: usize,
     begin: usize,
     end: usize,
-) -> Sums
-    requires { ⌜ StateAsked (now moves) (now words) (now first) (now second) d n s begin end ⌝ }
-    ensures { λ r. ⌜ StateDone (now (moves .entry)) (now (words .entry)) (now (first .entry)) (now (second .entry)) (d .by) n s r ⌝ }
+) -> u64
+    requires { ⌜ StateAsked (now moves) (now words) n q s begin end ⌝ }
+    ensures { λ r. ⌜ r ≡ next (now (moves .entry)) (length (now (moves .entry))) q (kindsAt (now (words .entry)) n) (valuesAt (now (words .entry)) n) s ⌝ }
 {
-    let f = first[s];
-    let g = second[s];
-    if g == 1 {
-        return Sums {
-            lower: ONE,
-            left: 0,
-        };
+    let kind = words[5 * n + s];
+    if kind == CERTAIN {
+        return bounds::ONE;
     }
-    if both_no(f, g) {
-        return Sums {
-            lower: 0,
-            left: ONE,
-        };
+    if kind == NIL {
+        return 0;
     }
-    let stays = d.by - words[6 * n + s];
-    let own = Sums {
-        lower: stays * words[s],
-        left: stays * words[n + s],
-    };
-    let sums = row(moves, words, n, begin, end, own);
-    Sums {
-        lower: moved_if(f, 1, d, sums.lower),
-        left: moved_if(g, 0, d, sums.left),
-    }
+    let stays = q - words[6 * n + s];
+    row(moves, words, n, begin, end, stays * words[2 * n + s]) / q
 }
 
-// The values of all states one step on, from the first 2 * n words into the next 2 * n.
-pub fn step(moves: &[u64], words: &mut [u64], first: &[u8], second: &[u8], d: Divisor, n: usize)
-    requires { ⌜ StepAsked (now moves) (now words) (now first) (now second) d n ⌝ }
-    ensures { λ _. ⌜ Stepped (now (moves .entry)) (now (first .entry)) (now (second .entry)) (d .by) n (now (words .entry)) (now (words .exit)) ⌝ }
+// The values of all states one step on, from the words after the first 2 * n into the n words after those.
+pub fn step(moves: &[u64], words: &mut [u64], n: usize, q: u64)
+    requires { ⌜ StepAsked (now moves) (now words) n q ⌝ }
+    ensures { λ _. ⌜ Stepped (now (moves .entry)) n q (now (words .entry)) (now (words .exit)) ⌝ }
 {
     let mut begin: usize = 0;
     let mut s: usize = 0;
     while s < n {
         let end = words[7 * n + s] as usize;
-        let next = state(moves, words, first, second, d, n, s, begin, end);
-        words[2 * n + s] = next.lower;
-        words[3 * n + s] = next.left;
+        words[3 * n + s] = state(moves, words, n, q, s, begin, end);
         begin = end;
         s += 1;
     }

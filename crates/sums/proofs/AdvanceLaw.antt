@@ -8,124 +8,126 @@ use lib.Seq.{getD-set-same, getD-set-other}
 use borrow.Author.Count.{below-more}
 use mir.Val.{Fits}
 use mir.Syntax.{w64}
-use Rattle.bounds.specs.Ends.{part}
+use Rattle.bounds.specs.Unit.{part}
 use Rattle.weights.specs.Asked.{Adds}
 use Rattle.rows.specs.Words.{at}
-use Rattle.sums.specs.Asked.{AdvanceAsked, Advanced}
+use Rattle.step.specs.Value.{valuesAt, nextAt}
+use Rattle.sums.specs.Asked.{sumsAt, AdvanceAsked, Advanced}
 
-pub record Inv (l₀ l : List ℕ) (n w end i : ℕ) : Type 0 where
+pub record Inv (l₀ l : List ℕ) (n w i : ℕ) : Type 0 where
   pub asked : AdvanceAsked l₀ n w
-  pub end-is : end ≡ n + n
-  pub within : i ≤ end
+  pub within : i ≤ n
   pub same : length l ≡ length l₀
-  pub values : (j : ℕ) → j < i → at l j ≡ at l₀ (2 * n + j)
-  pub sums : (j : ℕ) → j < i → at l (4 * n + j) ≡ at l₀ (4 * n + j) + part w (at l₀ (2 * n + j))
-  pub next : (j : ℕ) → j < n + n → at l (2 * n + j) ≡ at l₀ (2 * n + j)
+  pub values : (j : ℕ) → j < i → valuesAt l n j ≡ nextAt l₀ n j
+  pub next : (j : ℕ) → j < n → nextAt l n j ≡ nextAt l₀ n j
+  pub sums : (j : ℕ) → j < i → sumsAt l n j ≡ sumsAt l₀ n j + part w (nextAt l₀ n j)
+  pub before : (k : ℕ) → k < 2 * n → at l k ≡ at l₀ k
   pub after : (k : ℕ) → 4 * n + i ≤ k → at l k ≡ at l₀ k
 
-pub end-fits : {l : List ℕ} {n w : ℕ} → AdvanceAsked l n w → Fits w64 (n + n)
-end-fits p = omega (arith, p .states)
-
-pub start : {l : List ℕ} {n w : ℕ} → AdvanceAsked l n w → Inv l l n w (n + n) 0
+pub start : {l : List ℕ} {n w : ℕ} → AdvanceAsked l n w → Inv l l n w 0
 start p =
     record {
       asked = p;
-      end-is = refl;
       within = omega arith;
       same = refl;
       values = λ j h. absurd (omega arith);
-      sums = λ j h. absurd (omega arith);
       next = λ j h. refl;
+      sums = λ j h. absurd (omega arith);
+      before = λ k h. refl;
       after = λ k h. refl;
     }
 
-module _ {l₀ l : List ℕ} {n w end i : ℕ} (v : Inv l₀ l n w end i) (h : i < end) where
-  here : i < n + n
-  here = omega (arith, v .end-is)
-
+module _ {l₀ l : List ℕ} {n w i : ℕ} (v : Inv l₀ l n w i) (h : i < n) where
   pub base-two : Fits w64 (2 * n)
   base-two = omega (arith, v .asked .states)
+
+  pub base-three : Fits w64 (3 * n)
+  base-three = omega (arith, v .asked .states)
 
   pub base-four : Fits w64 (4 * n)
   base-four = omega (arith, v .asked .states)
 
   pub two : Fits w64 (2 * n + i)
-  two = omega (arith, here, v .asked .states)
+  two = omega (arith, v .asked .states)
+
+  pub three : Fits w64 (3 * n + i)
+  three = omega (arith, v .asked .states)
 
   pub four : Fits w64 (4 * n + i)
-  four = omega (arith, here, v .asked .states)
+  four = omega (arith, v .asked .states)
 
   pub next-fits : Fits w64 (i + 1)
-  next-fits = omega (arith, here, v .asked .states)
+  next-fits = omega (arith, v .asked .states)
+
+  pub in-three : 3 * n + i < length l
+  in-three = omega (arith, v .same, v .asked .room)
 
   pub in-two : 2 * n + i < length l
-  in-two = omega (arith, here, v .same, v .asked .room)
+  in-two = omega (arith, v .same, v .asked .room)
 
-  pub in-values : i < length l
-  in-values = omega (arith, here, v .same, v .asked .room)
+  pub in-four : (x : ℕ) → 4 * n + i < length (set l (2 * n + i) x)
+  in-four x = rw (length-set l (2 * n + i) x) (omega (arith, v .same, v .asked .room))
 
-  pub in-four : (x : ℕ) → 4 * n + i < length (set l i x)
-  in-four x = rw (length-set l i x) (omega (arith, here, v .same, v .asked .room))
+  value-is : at l (3 * n + i) ≡ at l₀ (3 * n + i)
+  value-is = v .next i h
 
-  value-is : at l (2 * n + i) ≡ at l₀ (2 * n + i)
-  value-is = v .next i here
+  sum-is : (x : ℕ) → at (set l (2 * n + i) x) (4 * n + i) ≡ at l₀ (4 * n + i)
+  sum-is x = getD-set-other l (2 * n + i) (4 * n + i) x 0 (omega arith) ∙ v .after (4 * n + i) (omega arith)
 
-  sum-is : (x : ℕ) → at (set l i x) (4 * n + i) ≡ at l₀ (4 * n + i)
-  sum-is x = getD-set-other l i (4 * n + i) x 0 (omega (arith, here)) ∙ v .after (4 * n + i) (omega arith)
-
-  pub may-add : Adds (at (set l i (at l (2 * n + i))) (4 * n + i)) w (at l (2 * n + i))
+  pub may-add : Adds (at (set l (2 * n + i) (at l (3 * n + i))) (4 * n + i)) w (at l (3 * n + i))
   may-add =
-      rw (sum-is (at l (2 * n + i)), value-is)
-      (record { weight = v .asked .weight; value = v .asked .values i here; fits = v .asked .fits i here })
+      rw (sum-is (at l (3 * n + i)), value-is)
+      (record { weight = v .asked .weight; value = v .asked .values i h; fits = v .asked .fits i h })
 
   -- a word that is neither of the two stored
-  others : (x y k : ℕ) → (k ≡ i → ⊥) → (k ≡ 4 * n + i → ⊥) → at (set (set l i x) (4 * n + i) y) k ≡ at l k
-  others x y k a b = getD-set-other (set l i x) (4 * n + i) k y 0 b ∙ getD-set-other l i k x 0 a
+  others : (x y k : ℕ) → (k ≡ 2 * n + i → ⊥) → (k ≡ 4 * n + i → ⊥) → at (set (set l (2 * n + i) x) (4 * n + i) y) k ≡ at l k
+  others x y k a b = getD-set-other (set l (2 * n + i) x) (4 * n + i) k y 0 b ∙ getD-set-other l (2 * n + i) k x 0 a
 
-  pub turn : (y : ℕ) → y ≡ at (set l i (at l (2 * n + i))) (4 * n + i) + w * at l (2 * n + i) / 4194304
-      → Inv l₀ (set (set l i (at l (2 * n + i))) (4 * n + i) y) n w end (i + 1)
+  pub turn : (y : ℕ) → y ≡ at (set l (2 * n + i) (at l (3 * n + i))) (4 * n + i) + part w (at l (3 * n + i))
+      → Inv l₀ (set (set l (2 * n + i) (at l (3 * n + i))) (4 * n + i) y) n w (i + 1)
   turn y e =
-      let x : ℕ = at l (2 * n + i) in
       record {
         asked = v .asked;
-        end-is = v .end-is;
         within = omega arith;
-        same = length-set (set l i (at l (2 * n + i))) (4 * n + i) y ∙ length-set l i (at l (2 * n + i)) ∙ v .same;
+        same = length-set (set l (2 * n + i) (at l (3 * n + i))) (4 * n + i) y ∙ length-set l (2 * n + i) (at l (3 * n + i)) ∙ v .same;
         values = below-more _ i
-            (λ j b. others (at l (2 * n + i)) y j (omega arith) (omega (arith, here)) ∙ v .values j b)
-            (getD-set-other (set l i (at l (2 * n + i))) (4 * n + i) i y 0 (omega (arith, here))
-            ∙ getD-set-same l i (at l (2 * n + i)) 0 in-values ∙ value-is);
+            (λ j b. others (at l (3 * n + i)) y (2 * n + j) (omega arith) (omega arith) ∙ v .values j b)
+            (getD-set-other (set l (2 * n + i) (at l (3 * n + i))) (4 * n + i) (2 * n + i) y 0 (omega arith)
+            ∙ getD-set-same l (2 * n + i) (at l (3 * n + i)) 0 in-two ∙ value-is);
+        next = λ j b. others (at l (3 * n + i)) y (3 * n + j) (omega arith) (omega arith) ∙ v .next j b;
         sums = below-more _ i
-            (λ j b. others (at l (2 * n + i)) y (4 * n + j) (omega (arith, here)) (omega arith) ∙ v .sums j b)
-            (getD-set-same (set l i (at l (2 * n + i))) (4 * n + i) y 0 (in-four (at l (2 * n + i)))
-            ∙ e ∙ rw (sum-is (at l (2 * n + i)), value-is) refl);
-        next = λ j b. others (at l (2 * n + i)) y (2 * n + j) (omega (arith, here)) (omega arith) ∙ v .next j b;
-        after = λ k b. others (at l (2 * n + i)) y k (omega (arith, here)) (omega arith) ∙ v .after k (omega arith);
+            (λ j b. others (at l (3 * n + i)) y (4 * n + j) (omega arith) (omega arith) ∙ v .sums j b)
+            (getD-set-same (set l (2 * n + i) (at l (3 * n + i))) (4 * n + i) y 0 (in-four (at l (3 * n + i)))
+            ∙ e ∙ rw (sum-is (at l (3 * n + i)), value-is) refl);
+        before = λ k b. others (at l (3 * n + i)) y k (omega arith) (omega arith) ∙ v .before k b;
+        after = λ k b. others (at l (3 * n + i)) y k (omega arith) (omega arith) ∙ v .after k (omega arith);
       }
 
-pub finish : {l₀ l : List ℕ} {n w end i : ℕ} → Inv l₀ l n w end i → end ≤ i → Advanced n w l₀ l
+pub finish : {l₀ l : List ℕ} {n w i : ℕ} → Inv l₀ l n w i → n ≤ i → Advanced n w l₀ l
 finish v h =
     record {
       same = v .same;
-      values = λ j b. v .values j (omega (arith, v .end-is));
-      sums = λ j b. v .sums j (omega (arith, v .end-is));
+      values = λ j b. v .values j (omega arith);
       next = v .next;
-      after = λ k b. v .after k (omega (arith, v .within, v .end-is));
+      sums = λ j b. v .sums j (omega arith);
+      before = v .before;
+      after = λ k b. v .after k (omega (arith, v .within));
     }
 
-pub finish-length : {l₀ l : List ℕ} {n w end i : ℕ} → Inv l₀ l n w end i → length l ≡ length l₀
+pub finish-length : {l₀ l : List ℕ} {n w i : ℕ} → Inv l₀ l n w i → length l ≡ length l₀
 finish-length v = v .same
 
 pub ruleset advance-laws = (
-  end-fits,
   start,
   base-two,
+  base-three,
   base-four,
   two,
+  three,
   four,
   next-fits,
+  in-three,
   in-two,
-  in-values,
   in-four,
   may-add,
   turn,

@@ -1,7 +1,7 @@
--- The values of step 0 and empty sums. Assumes nothing.
+-- The values of step 0, empty sums and kinds. Assumes nothing.
 use mathlib.Core.Path.{_≡_, refl, _∙_}
 use mathlib.Core.List.{List}
-use mathlib.Core.Bool.{cond}
+use mathlib.Core.Bool.{Bool, true, false, cond, not, _||_}
 use Prim.Native.Nat.{ℕ, _+_, _*_, _≤_, _<_}
 use native.Mathlib.Omega.{arith}
 use lib.ListN.{length, set, length-set}
@@ -10,40 +10,48 @@ use lib.Dec.{eqb}
 use borrow.Author.Count.{below-more}
 use mir.Val.{Fits}
 use mir.Syntax.{w64}
-use Rattle.bounds.specs.Ends.{one}
+use Rattle.csl.specs.Phase.{bit}
+use Rattle.bounds.specs.Unit.{one}
+use Rattle.bounds.specs.Values.{verdictAt}
 use Rattle.rows.specs.Words.{at}
-use Rattle.sums.specs.Asked.{BeginAsked, Begun}
+use Rattle.step.specs.Value.{readAs, readPhase, kindOf, startOf, kindsOf, nextAt, kindsAt}
+use Rattle.sums.specs.Asked.{sumsAt, BeginAsked, Begun}
 
-pub record Inv (l₀ l second : List ℕ) (n s : ℕ) : Type 0 where
-  pub asked : BeginAsked l₀ second n
+pub record Inv (l₀ l first second : List ℕ) (n : ℕ) (b : Bool) (s : ℕ) : Type 0 where
+  pub asked : BeginAsked l₀ first second n
   pub within : s ≤ n
   pub same : length l ≡ length l₀
-  pub lower : (g : ℕ) → g < s → at l (2 * n + g) ≡ cond (eqb (at second g) 1) one 0
-  pub left : (g : ℕ) → g < s → at l (3 * n + g) ≡ cond (eqb (at second g) 0) one 0
-  pub lower-sum : (g : ℕ) → g < s → at l (4 * n + g) ≡ 0
-  pub left-sum : (g : ℕ) → g < s → at l (5 * n + g) ≡ 0
+  pub values : (g : ℕ) → g < s → nextAt l n g ≡ startOf (readPhase b first second) g
+  pub sums : (g : ℕ) → g < s → sumsAt l n g ≡ 0
+  pub kinds : (g : ℕ) → g < s → kindsAt l n g ≡ kindsOf (readPhase b first second) g
+  pub before : (k : ℕ) → k < 3 * n → at l k ≡ at l₀ k
   pub after : (k : ℕ) → 6 * n ≤ k → at l k ≡ at l₀ k
 
-pub start : {l second : List ℕ} {n : ℕ} → BeginAsked l second n → Inv l l second n 0
+pub start : {l first second : List ℕ} {n : ℕ} {b : Bool} → BeginAsked l first second n → Inv l l first second n b 0
 start p =
     record {
       asked = p;
       within = omega arith;
       same = refl;
-      lower = λ g h. absurd (omega arith);
-      left = λ g h. absurd (omega arith);
-      lower-sum = λ g h. absurd (omega arith);
-      left-sum = λ g h. absurd (omega arith);
+      values = λ g h. absurd (omega arith);
+      sums = λ g h. absurd (omega arith);
+      kinds = λ g h. absurd (omega arith);
+      before = λ k h. refl;
       after = λ k h. refl;
     }
 
-module _ {l₀ l second : List ℕ} {n s : ℕ} (v : Inv l₀ l second n s) (h : s < n) where
+-- the start of a state, by its kind
+start-is : (o z : Bool) → cond (eqb (kindOf o z) 2) one 0 ≡ one * bit o
+start-is true z = refl
+start-is false true = refl
+start-is false false = refl
+
+module _ {l₀ l first second : List ℕ} {n : ℕ} {b : Bool} {s : ℕ} (v : Inv l₀ l first second n b s) (h : s < n) where
+  pub in-first : s < length first
+  in-first = omega (arith, v .asked .in-first)
+
   pub in-second : s < length second
   in-second = omega (arith, v .asked .in-second)
-
-  -- an index of n times at most 5 fits
-  pub base-two : Fits w64 (2 * n)
-  base-two = omega (arith, v .asked .states)
 
   pub base-three : Fits w64 (3 * n)
   base-three = omega (arith, v .asked .states)
@@ -53,9 +61,6 @@ module _ {l₀ l second : List ℕ} {n s : ℕ} (v : Inv l₀ l second n s) (h :
 
   pub base-five : Fits w64 (5 * n)
   base-five = omega (arith, v .asked .states)
-
-  pub two : Fits w64 (2 * n + s)
-  two = omega (arith, v .asked .states)
 
   pub three : Fits w64 (3 * n + s)
   three = omega (arith, v .asked .states)
@@ -69,93 +74,81 @@ module _ {l₀ l second : List ℕ} {n s : ℕ} (v : Inv l₀ l second n s) (h :
   pub next-fits : Fits w64 (s + 1)
   next-fits = omega (arith, v .asked .states)
 
-  pub in-two : 2 * n + s < length l
-  in-two = omega (arith, v .same, v .asked .room)
+  pub in-three : 3 * n + s < length l
+  in-three = omega (arith, v .same, v .asked .room)
 
   module _ (x : ℕ) where
-    one-in : length (set l (2 * n + s) x) ≡ length l
-    one-in = length-set l (2 * n + s) x
+    one-in : length (set l (3 * n + s) x) ≡ length l
+    one-in = length-set l (3 * n + s) x
 
-    pub in-three : 3 * n + s < length (set l (2 * n + s) x)
-    in-three = omega (arith, one-in, v .same, v .asked .room)
+    pub in-four : 4 * n + s < length (set l (3 * n + s) x)
+    in-four = omega (arith, one-in, v .same, v .asked .room)
+
+    two-in : length (set (set l (3 * n + s) x) (4 * n + s) 0) ≡ length l
+    two-in = length-set (set l (3 * n + s) x) (4 * n + s) 0 ∙ one-in
+
+    pub in-five : 5 * n + s < length (set (set l (3 * n + s) x) (4 * n + s) 0)
+    in-five = omega (arith, two-in, v .same, v .asked .room)
 
     module _ (y : ℕ) where
-      two-in : length (set (set l (2 * n + s) x) (3 * n + s) y) ≡ length l
-      two-in = length-set (set l (2 * n + s) x) (3 * n + s) y ∙ one-in
+      -- a word that is none of the three stored
+      others : (k : ℕ) → (k ≡ 3 * n + s → ⊥) → (k ≡ 4 * n + s → ⊥) → (k ≡ 5 * n + s → ⊥)
+          → at (set (set (set l (3 * n + s) x) (4 * n + s) 0) (5 * n + s) y) k ≡ at l k
+      others k a b c =
+          getD-set-other (set (set l (3 * n + s) x) (4 * n + s) 0) (5 * n + s) k y 0 c
+          ∙ getD-set-other (set l (3 * n + s) x) (4 * n + s) k 0 0 b
+          ∙ getD-set-other l (3 * n + s) k x 0 a
 
-      pub in-four : 4 * n + s < length (set (set l (2 * n + s) x) (3 * n + s) y)
-      in-four = omega (arith, two-in, v .same, v .asked .room)
-
-      three-in : length (set (set (set l (2 * n + s) x) (3 * n + s) y) (4 * n + s) 0) ≡ length l
-      three-in = length-set (set (set l (2 * n + s) x) (3 * n + s) y) (4 * n + s) 0 ∙ two-in
-
-      pub in-five : 5 * n + s < length (set (set (set l (2 * n + s) x) (3 * n + s) y) (4 * n + s) 0)
-      in-five = omega (arith, three-in, v .same, v .asked .room)
-
-      -- a word that is none of the four stored
-      others : (k : ℕ) → (k ≡ 2 * n + s → ⊥) → (k ≡ 3 * n + s → ⊥) → (k ≡ 4 * n + s → ⊥) → (k ≡ 5 * n + s → ⊥)
-          → at (set (set (set (set l (2 * n + s) x) (3 * n + s) y) (4 * n + s) 0) (5 * n + s) 0) k ≡ at l k
-      others k a b c d =
-          getD-set-other (set (set (set l (2 * n + s) x) (3 * n + s) y) (4 * n + s) 0) (5 * n + s) k 0 0 d
-          ∙ getD-set-other (set (set l (2 * n + s) x) (3 * n + s) y) (4 * n + s) k 0 0 c
-          ∙ getD-set-other (set l (2 * n + s) x) (3 * n + s) k y 0 b
-          ∙ getD-set-other l (2 * n + s) k x 0 a
-
-      pub turn : x ≡ cond (eqb (at second s) 1) 64000000000 0 → y ≡ cond (eqb (at second s) 0) 64000000000 0
-          → Inv l₀ (set (set (set (set l (2 * n + s) x) (3 * n + s) y) (4 * n + s) 0) (5 * n + s) 0) second n (s + 1)
+      pub turn : x ≡ cond (eqb y 2) one 0
+          → y ≡ kindOf (readAs b (verdictAt (at second s))) (not (readAs b (verdictAt (at first s)) || readAs b (verdictAt (at second s))))
+          → Inv l₀ (set (set (set l (3 * n + s) x) (4 * n + s) 0) (5 * n + s) y) first second n b (s + 1)
       turn e f =
           record {
             asked = v .asked;
             within = omega arith;
-            same = length-set (set (set (set l (2 * n + s) x) (3 * n + s) y) (4 * n + s) 0) (5 * n + s) 0 ∙ three-in ∙ v .same;
-            lower = below-more _ s
-                (λ g b. others (2 * n + g) (omega arith) (omega arith) (omega arith) (omega arith) ∙ v .lower g b)
-                (getD-set-other (set (set (set l (2 * n + s) x) (3 * n + s) y) (4 * n + s) 0) (5 * n + s) (2 * n + s) 0 0 (omega arith)
-                ∙ getD-set-other (set (set l (2 * n + s) x) (3 * n + s) y) (4 * n + s) (2 * n + s) 0 0 (omega arith)
-                ∙ getD-set-other (set l (2 * n + s) x) (3 * n + s) (2 * n + s) y 0 (omega arith)
-                ∙ getD-set-same l (2 * n + s) x 0 in-two ∙ e);
-            left = below-more _ s
-                (λ g b. others (3 * n + g) (omega arith) (omega arith) (omega arith) (omega arith) ∙ v .left g b)
-                (getD-set-other (set (set (set l (2 * n + s) x) (3 * n + s) y) (4 * n + s) 0) (5 * n + s) (3 * n + s) 0 0 (omega arith)
-                ∙ getD-set-other (set (set l (2 * n + s) x) (3 * n + s) y) (4 * n + s) (3 * n + s) 0 0 (omega arith)
-                ∙ getD-set-same (set l (2 * n + s) x) (3 * n + s) y 0 in-three ∙ f);
-            lower-sum = below-more _ s
-                (λ g b. others (4 * n + g) (omega arith) (omega arith) (omega arith) (omega arith) ∙ v .lower-sum g b)
-                (getD-set-other (set (set (set l (2 * n + s) x) (3 * n + s) y) (4 * n + s) 0) (5 * n + s) (4 * n + s) 0 0 (omega arith)
-                ∙ getD-set-same (set (set l (2 * n + s) x) (3 * n + s) y) (4 * n + s) 0 0 in-four);
-            left-sum = below-more _ s
-                (λ g b. others (5 * n + g) (omega arith) (omega arith) (omega arith) (omega arith) ∙ v .left-sum g b)
-                (getD-set-same (set (set (set l (2 * n + s) x) (3 * n + s) y) (4 * n + s) 0) (5 * n + s) 0 0 in-five);
-            after = λ k b. others k (omega arith) (omega arith) (omega arith) (omega arith) ∙ v .after k b;
+            same = length-set (set (set l (3 * n + s) x) (4 * n + s) 0) (5 * n + s) y ∙ two-in ∙ v .same;
+            values = below-more _ s
+                (λ g c. others (3 * n + g) (omega arith) (omega arith) (omega arith) ∙ v .values g c)
+                (getD-set-other (set (set l (3 * n + s) x) (4 * n + s) 0) (5 * n + s) (3 * n + s) y 0 (omega arith)
+                ∙ getD-set-other (set l (3 * n + s) x) (4 * n + s) (3 * n + s) 0 0 (omega arith)
+                ∙ getD-set-same l (3 * n + s) x 0 in-three ∙ e ∙ rw f
+                (start-is (readAs b (verdictAt (at second s))) (not (readAs b (verdictAt (at first s)) || readAs b (verdictAt (at second s))))));
+            sums = below-more _ s
+                (λ g c. others (4 * n + g) (omega arith) (omega arith) (omega arith) ∙ v .sums g c)
+                (getD-set-other (set (set l (3 * n + s) x) (4 * n + s) 0) (5 * n + s) (4 * n + s) y 0 (omega arith)
+                ∙ getD-set-same (set l (3 * n + s) x) (4 * n + s) 0 0 in-four);
+            kinds = below-more _ s
+                (λ g c. others (5 * n + g) (omega arith) (omega arith) (omega arith) ∙ v .kinds g c)
+                (getD-set-same (set (set l (3 * n + s) x) (4 * n + s) 0) (5 * n + s) y 0 in-five ∙ f);
+            before = λ k c. others k (omega arith) (omega arith) (omega arith) ∙ v .before k c;
+            after = λ k c. others k (omega arith) (omega arith) (omega arith) ∙ v .after k c;
           }
 
-pub finish : {l₀ l second : List ℕ} {n s : ℕ} → Inv l₀ l second n s → n ≤ s → Begun second n l₀ l
+pub finish : {l₀ l first second : List ℕ} {n : ℕ} {b : Bool} {s : ℕ} → Inv l₀ l first second n b s → n ≤ s → Begun first second n b l₀ l
 finish v h =
     record {
       same = v .same;
-      lower = λ g b. v .lower g (omega arith);
-      left = λ g b. v .left g (omega arith);
-      lower-sum = λ g b. v .lower-sum g (omega arith);
-      left-sum = λ g b. v .left-sum g (omega arith);
+      values = λ g b. v .values g (omega arith);
+      sums = λ g b. v .sums g (omega arith);
+      kinds = λ g b. v .kinds g (omega arith);
+      before = v .before;
       after = v .after;
     }
 
-pub finish-length : {l₀ l second : List ℕ} {n s : ℕ} → Inv l₀ l second n s → length l ≡ length l₀
+pub finish-length : {l₀ l first second : List ℕ} {n : ℕ} {b : Bool} {s : ℕ} → Inv l₀ l first second n b s → length l ≡ length l₀
 finish-length v = v .same
 
 pub ruleset begin-laws = (
   start,
+  in-first,
   in-second,
-  base-two,
   base-three,
   base-four,
   base-five,
-  two,
   three,
   four,
   five,
   next-fits,
-  in-two,
   in-three,
   in-four,
   in-five,

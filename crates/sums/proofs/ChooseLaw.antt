@@ -1,9 +1,13 @@
--- A choice by a verdict byte. Assumes nothing.
-use mathlib.Core.Path.{_≡_, refl}
-use mathlib.Core.Bool.{cond}
+-- Choices by a verdict byte, and by a kind. Assumes nothing.
+use mathlib.Core.Path.{_≡_, refl, sym, _∙_}
+use mathlib.Core.Bool.{Bool, true, false, cond, not, _||_}
 use Prim.Native.Nat.{ℕ}
+use native.Mathlib.Omega.{arith}
 use lib.Dec.{eqb}
-use borrow.Author.Tests.{eq-eqb, ne-eqb}
+use borrow.Author.Tests.{eqb-true, eq-eqb, ne-eqb}
+use Rattle.csl.specs.Verdicts.{No, Yes, Undecided}
+use Rattle.bounds.specs.Values.{verdictAt}
+use Rattle.step.specs.Value.{readAs, kindOf}
 
 pub is-asked : (b a x y : ℕ) → b ≡ a → x ≡ cond (eqb b a) x y
 is-asked b a x y h = rw (eq-eqb b a h) refl
@@ -11,4 +15,38 @@ is-asked b a x y h = rw (eq-eqb b a h) refl
 pub is-other : (b a x y : ℕ) → (b ≡ a → ⊥) → y ≡ cond (eqb b a) x y
 is-other b a x y h = rw (ne-eqb b a h) refl
 
-pub ruleset choose-laws = (is-asked, is-other)
+-- a byte read
+read-yes : (g : ℕ) → not (eqb g 0) ≡ readAs true (verdictAt g)
+read-yes g = by (eqb g 0) (eqb g 1)
+  where
+    by : (a b : Bool) → not a ≡ readAs true (cond a No (cond b Yes Undecided))
+    by true b = refl
+    by false true = refl
+    by false false = refl
+
+read-no : (g : ℕ) → eqb g 1 ≡ readAs false (verdictAt g)
+read-no g = by (eqb g 0) (eqb g 1) refl refl
+  where
+    by : (a b : Bool) → eqb g 0 ≡ a → eqb g 1 ≡ b → b ≡ readAs false (cond a No (cond b Yes Undecided))
+    by true true p q = let y : g ≡ 0 = eqb-true g 0 p in let z : g ≡ 1 = eqb-true g 1 q in absurd (omega arith)
+    by true false p q = refl
+    by false true p q = refl
+    by false false p q = refl
+
+pub holds-yes : (g : ℕ) (b r : Bool) → b ≡ true → r ≡ not (eqb g 0) → r ≡ readAs b (verdictAt g)
+holds-yes g b r h e = rw h (e ∙ read-yes g)
+
+pub holds-no : (g : ℕ) (b r : Bool) → b ≡ false → r ≡ eqb g 1 → r ≡ readAs b (verdictAt g)
+holds-no g b r h e = rw h (e ∙ read-no g)
+
+-- a kind, by what holds
+pub kind-certain : (x y a : Bool) → a ≡ y → a ≡ true → 2 ≡ kindOf y (not (x || y))
+kind-certain x y a e h = rw (sym e, h) refl
+
+pub kind-moves : (x y a b : Bool) → a ≡ y → a ≡ false → b ≡ x → b ≡ true → 1 ≡ kindOf y (not (x || y))
+kind-moves x y a b e h f k = rw (sym e, h, sym f, k) refl
+
+pub kind-nil : (x y a b : Bool) → a ≡ y → a ≡ false → b ≡ x → b ≡ false → 0 ≡ kindOf y (not (x || y))
+kind-nil x y a b e h f k = rw (sym e, h, sym f, k) refl
+
+pub ruleset choose-laws = (is-asked, is-other, holds-yes, holds-no, kind-certain, kind-moves, kind-nil)

@@ -1,12 +1,14 @@
-// The sums over the steps of an until of weight times value, both sides, on lent words.
+// The sums over the steps of a phase of weight times value, on lent words.
 //
-// Of the words, with n states: the first 2 * n hold the values, lower ones and then those of what is left of 1; the next 2 * n the values
-// one step on; the next 2 * n the sums; then the exit rates, the row ends, and from 8 * n on the weights.
+// Of the words, with n states, the first 2 * n are left alone; from 2 * n on stand the values, then the values one step on, the sums, the
+// kinds, the exit rates, the row ends, and from 8 * n on the weights.
 ghost use mathlib.Core.Path.{_≡_};
-ghost use mathlib.Core.Bool.{cond};
+ghost use mathlib.Core.Bool.{cond, not, _||_};
 ghost use lib.Dec.{eqb};
+ghost use Rattle.bounds.specs.Unit.{one};
+ghost use Rattle.bounds.specs.Values as values;
+ghost use Rattle.step.specs.Value.{readAs, kindOf};
 ghost use Rattle.sums.specs.Asked.{BeginAsked, Begun, AdvanceAsked, Advanced, RunAsked, Ran};
-use division::Divisor;
 
 // x where a verdict byte is the one asked for, else y.
 pub fn choose(byte: u8, asked: u8, x: u64, y: u64) -> u64
@@ -15,17 +17,48 @@ pub fn choose(byte: u8, asked: u8, x: u64, y: u64) -> u64
     if byte == asked { x } else { y }
 }
 
-// The values of step 0, and empty sums.
-pub fn begin(words: &mut [u64], second: &[u8], n: usize)
-    requires { ⌜ BeginAsked (now words) (now second) n ⌝ }
-    ensures { λ _. ⌜ Begun (now (second .entry)) n (now (words .entry)) (now (words .exit)) ⌝ }
+// Whether a verdict byte says that an operand holds, undecided read as yes or as no.
+pub fn holds(byte: u8, as_yes: bool) -> bool
+    ensures { λ r. ⌜ r ≡ readAs as_yes (values.verdictAt byte) ⌝ }
+{
+    if as_yes { byte != 0 } else { byte == 1 }
+}
+
+// The kind of a state in an until, by its operands' verdict bytes.
+pub fn kind(f: u8, g: u8, as_yes: bool) -> u64
+    ensures { λ r. ⌜ r ≡ kindOf (readAs as_yes (values.verdictAt g)) (not (readAs as_yes (values.verdictAt f) || readAs as_yes (values.verdictAt g))) ⌝ }
+{
+    if holds(g, as_yes) {
+        step::CERTAIN
+    } else if holds(f, as_yes) {
+        step::MOVES
+    } else {
+        step::NIL
+    }
+}
+
+// The value of step 0 of a state of an until, by its kind.
+pub fn first_value(kind: u64) -> u64
+    ensures { λ r. ⌜ r ≡ cond (eqb kind 2) one 0 ⌝ }
+{
+    if kind == step::CERTAIN {
+        bounds::ONE
+    } else {
+        0
+    }
+}
+
+// The values of step 0 of an until, empty sums, and the kinds of the states.
+pub fn begin(words: &mut [u64], first: &[u8], second: &[u8], n: usize, as_yes: bool)
+    requires { ⌜ BeginAsked (now words) (now first) (now second) n ⌝ }
+    ensures { λ _. ⌜ Begun (now (first .entry)) (now (second .entry)) n as_yes (now (words .entry)) (now (words .exit)) ⌝ }
 {
     let mut s: usize = 0;
     while s < n {
-        words[2 * n + s] = choose(second[s], 1, step::ONE, 0);
-        words[3 * n + s] = choose(second[s], 0, step::ONE, 0);
+        let k = kind(first[s], second[s], as_yes);
+        words[3 * n + s] = first_value(k);
         words[4 * n + s] = 0;
-        words[5 * n + s] = 0;
+        words[5 * n + s] = k;
         s += 1;
     }
 }
@@ -35,34 +68,28 @@ pub fn advance(words: &mut [u64], n: usize, w: u64)
     requires { ⌜ AdvanceAsked (now words) n w ⌝ }
     ensures { λ _. ⌜ Advanced n w (now (words .entry)) (now (words .exit)) ⌝ }
 {
-    let end = n + n;
     let mut i: usize = 0;
-    while i < end {
-        let x = words[2 * n + i];
-        words[i] = x;
+    while i < n {
+        let x = words[3 * n + i];
+        words[2 * n + i] = x;
         words[4 * n + i] = weights::added(words[4 * n + i], w, x);
         i += 1;
     }
 }
 
-// The sums over steps 0 to depth of weight times value, both sides.
-pub fn run(
-    moves: &[u64],
-    words: &mut [u64],
-    first: &[u8],
-    second: &[u8],
-    d: Divisor,
-    n: usize,
-    depth: usize,
-)
-    requires { ⌜ RunAsked (now moves) (now words) (now first) (now second) d n depth ⌝ }
-    ensures { λ _. ⌜ Ran (now (moves .entry)) (now (first .entry)) (now (second .entry)) (d .by) n depth (now (words .entry)) (now (words .exit)) ⌝ }
+// The sums over steps 0 to depth of weight times value.
+pub fn run(moves: &[u64], words: &mut [u64], n: usize, q: u64, depth: usize)
+    requires { ⌜ RunAsked (now moves) (now words) n q depth ⌝ }
+    ensures { λ _. ⌜ Ran (now (moves .entry)) n q depth (now (words .entry)) (now (words .exit)) ⌝ }
 {
     let mut k: usize = 0;
-    while k <= depth {
+    loop {
         let w = words[8 * n + k];
         advance(words, n, w);
-        step::step(moves, words, first, second, d, n);
+        if k == depth {
+            return;
+        }
+        step::step(moves, words, n, q);
         k += 1;
     }
 }

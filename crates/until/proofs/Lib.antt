@@ -1,7 +1,11 @@
 -- Laws behind the proofs of `until`.
 pub mod LastLaw
 pub mod PointedLaw
-pub mod EndsLaw
+pub mod DecidedLaw
+pub mod GatherLaw
+pub mod LowerLaw
+pub mod UpperLaw
+pub mod ReadLaw
 pub mod StillLaw
 pub mod WeighLaw
 pub mod SummedLaw

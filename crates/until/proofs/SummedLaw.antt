@@ -1,45 +1,24 @@
--- Weights, steps and ends, one after the other. Assumes nothing.
-use mathlib.Core.Path.{_≡_, refl, _∙_}
-use mathlib.Core.Bool.{Bool, true, false, cond}
+-- Weights, readings and ends, one after the other. Assumes nothing.
+use mathlib.Core.Path.{_≡_, refl, ap, _∙_}
+use mathlib.Core.Bool.{Bool, true, false}
 use mathlib.Core.List.{List}
 use Prim.Native.Nat.{ℕ, suc, _+_, _*_, _-_, _/_, _≤_, _<_}
 use native.Mathlib.Omega.{arith}
 use native.Mathlib.Numerals.{add-one}
 use lib.ListN.{length}
-use lib.Dec.{eqb}
-use borrow.Author.Tests.{eqb-true}
-use Rattle.csl.specs.Phase.{Phase, bit}
-use Rattle.csl.specs.Verdicts.{No, Yes, Undecided, asNo, asYes, least}
+use Rattle.csl.specs.Phase.{Phase}
 use Rattle.numbers.specs.Hint.{mul-bound}
 use Rattle.numbers.specs.Sum.{sum-cong, sum-rest-none}
 use Rattle.bounds.specs.Weight.{peak, low, Middle, low-most}
-use Rattle.bounds.specs.Ends.{one, part, total, gathered, lowerEnd, gathered-most, total-most, total-peak}
-use Rattle.bounds.specs.Values.{verdictAt}
-use Rattle.division.specs.declared.Divisor.{Divisor}
-use Rattle.division.specs.Contract.{Prepared}
+use Rattle.bounds.specs.Unit.{one, grain, part}
+use Rattle.bounds.specs.Ends.{total, gathered, lowerEnd, gathered-most, total-most, total-peak}
+use Rattle.bounds.specs.Upper.{gatherable, leftEnd, gatherable-most}
 use Rattle.rows.specs.Words.{at}
-use Rattle.step.specs.Value.{verdicts, lowPhase, leftPhase, valueOf}
-use Rattle.step.specs.Bound.{bit-most, value-most}
-use Rattle.sums.specs.Asked.{BeginAsked, Begun, RunAsked, sumOf, Ran}
-use Rattle.until.specs.Asked.{WeighAsked, Weighed, LastAsked, Last, EndsAsked, Ended, SummedAsked, Summed}
-
--- the starts of the two phases, by a verdict byte
-low-start : (g : ℕ) → cond (eqb g 1) one 0 ≡ one * bit (asNo (verdictAt g))
-low-start g = at (eqb g 0) (eqb g 1) refl refl
-  where
-    at : (a b : Bool) → eqb g 0 ≡ a → eqb g 1 ≡ b → cond b one 0 ≡ one * bit (asNo (cond a No (cond b Yes Undecided)))
-    at true true p q = let y : g ≡ 0 = eqb-true g 0 p in let z : g ≡ 1 = eqb-true g 1 q in absurd (omega arith)
-    at true false p q = refl
-    at false true p q = refl
-    at false false p q = refl
-
-left-start : (g : ℕ) → cond (eqb g 0) one 0 ≡ one * (1 - bit (asYes (verdictAt g)))
-left-start g = at (eqb g 0) (eqb g 1)
-  where
-    at : (a b : Bool) → cond a one 0 ≡ one * (1 - bit (asYes (cond a No (cond b Yes Undecided))))
-    at true b = refl
-    at false true = refl
-    at false false = refl
+use Rattle.step.specs.Value.{verdicts, readAs, readPhase, lowPhase, highPhase, startOf, kindsOf, valueOf}
+use Rattle.step.specs.Bound.{bit-most, run-most}
+use Rattle.step.specs.Asked.{Sheet}
+use Rattle.sums.specs.Asked.{sumsAt}
+use Rattle.until.specs.Asked.{WeighAsked, Weighed, LastAsked, Last, phaseSum, ReadAsked, Read, HighAsked, GatherAsked, wholeOf, LowerAsked, Lowered, UpperAsked, Uppered, SummedAsked, Summed}
 
 module _ {mv l first second : List ℕ} {n q a depth : ℕ} (p : SummedAsked mv l first second n q a depth) where
   middle : Middle a 1000000 (a / 1000000)
@@ -54,101 +33,174 @@ module _ {mv l first second : List ℕ} {n q a depth : ℕ} (p : SummedAsked mv 
   pub may-weigh : WeighAsked l n a depth
   may-weigh = p .weigh
 
-  pub some-rate : 0 < q
-  some-rate = p .sheet .some
+  -- a list that still has the sheet and the weights
+  record Kept (x : List ℕ) : Type 0 where
+    pub same : length x ≡ length l
+    pub rows : (k : ℕ) → 6 * n ≤ k → k < 8 * n → at x k ≡ at l k
+    pub weights : (k : ℕ) → k ≤ depth → at x (8 * n + k) ≡ low a 1000000 (a / 1000000) k
+    pub beyond : (k : ℕ) → 8 * n + depth < k → at x k ≡ at l k
 
-  pub small-rate : q ≤ 256000000
-  small-rate = p .sheet .small
+  -- one more change before 6 * n
+  kept-on : {x y : List ℕ} → Kept x → length y ≡ length x → ((k : ℕ) → 6 * n ≤ k → at y k ≡ at x k) → Kept y
+  kept-on c e h =
+      record {
+        same = e ∙ c .same;
+        rows = λ k b d. h k b ∙ c .rows k b d;
+        weights = λ k b. h (8 * n + k) (omega arith) ∙ c .weights k b;
+        beyond = λ k b. h k (omega arith) ∙ c .beyond k b;
+      }
+
+  module _ {x : List ℕ} (c : Kept x) where
+    sheet-kept : Sheet mv x n q
+    sheet-kept =
+        record {
+          lines = p .sheet .lines;
+          room = omega (arith, c .same, p .sheet .room);
+          exits = λ s h. c .rows (6 * n + s) (omega arith) (omega arith) ∙ p .sheet .exits s h;
+          ends = λ s h. c .rows (7 * n + s) (omega arith) (omega arith) ∙ p .sheet .ends s h;
+          slow = p .sheet .slow;
+          some = p .sheet .some;
+          small = p .sheet .small;
+        }
+
+    light : (k : ℕ) → k ≤ depth → at x (8 * n + k) ≤ peak
+    light k h = rw (c .weights k h) (low-most middle k)
+
+    read-kept : (last : ℕ) → last ≤ depth → ReadAsked mv x first second n q last
+    read-kept last h =
+        record {
+          sheet = sheet-kept;
+          in-first = p .in-first;
+          in-second = p .in-second;
+          room = omega (arith, c .same, p .weigh .room);
+          limit = omega (arith, limit);
+          weights = λ k b. light k (omega arith);
+        }
+
+    gather-kept : GatherAsked x n depth 0
+    gather-kept =
+        record { states = p .weigh .states; room = omega (arith, c .same, p .weigh .room); limit = limit; error = omega arith; weights = light }
+
+    whole-is : wholeOf x n depth 0 ≡ gatherable a 1000000 (a / 1000000) depth 0
+    unfolding gatherable
+    whole-is =
+        rw add-one
+        (ap (λ (t : ℕ). t - suc depth)
+        (sum-cong (λ k. part (at x (8 * n + k)) (one - (0 + k))) (λ k. part (low a 1000000 (a / 1000000) k) (one - (0 + k))) (suc depth)
+        (λ k h. rw (c .weights k (omega arith)) refl)))
+
+    -- steps after the last with a weight add nothing
+    sum-is : (ph : Phase) (s last : ℕ) → last ≤ depth → ((k : ℕ) → last < k → k ≤ depth → at x (8 * n + k) ≡ 0)
+        → phaseSum mv x n q last ph s ≡ gathered a 1000000 (a / 1000000) depth (λ k. valueOf mv (length mv) q ph k s)
+    unfolding gathered
+    sum-is ph s last h none =
+        sum-rest-none (λ k. part (at x (8 * n + k)) (valueOf mv (length mv) q ph k s)) (last + 1) (depth + 1) (omega arith)
+        (λ k b e. rw (none k (omega arith) (omega arith)) (omega arith))
+        ∙ rw add-one
+        (sum-cong (λ k. part (at x (8 * n + k)) (valueOf mv (length mv) q ph k s))
+        (λ k. part (low a 1000000 (a / 1000000) k) (valueOf mv (length mv) q ph k s)) (suc depth)
+        (λ k b. rw (c .weights k (omega arith)) refl))
+
+  total-small : total a 1000000 (a / 1000000) depth < 4503599627370496
+  total-small =
+      let y : depth + 2 ≤ 1026 = omega (arith, limit) in
+      let z : peak + depth ≤ 1099511628800 = omega (arith, limit) in
+      omega (arith, total-most a 1000000 (a / 1000000) depth middle deep, mul-bound y z)
+
+  gathered-small : (b : Bool) (s : ℕ) → s < n
+      → gathered a 1000000 (a / 1000000) depth (λ k. valueOf mv (length mv) q (readPhase b first second) k s) * grain
+      ≤ total a 1000000 (a / 1000000) depth * one
+  gathered-small b s h =
+      gathered-most a 1000000 (a / 1000000) depth (λ k. valueOf mv (length mv) q (readPhase b first second) k s)
+      (λ k c. run-most mv (length mv) n q (p .sheet .lines .targets) (startOf (readPhase b first second)) (kindsOf (readPhase b first second))
+      (λ t e. omega (arith, bit-most (readAs b (verdicts second t)))) (p .sheet .slow) k s h)
 
   module _ {w : List ℕ} {r : ℕ} (u : Weighed n a depth l w r) where
-    pub may-begin : BeginAsked w second n
-    may-begin =
-        record { states = p .weigh .states; room = omega (arith, u .same, p .sheet .room); in-second = p .in-second }
+    kept-weighed : Kept w
+    kept-weighed = record { same = u .same; rows = λ k b d. u .before k d; weights = u .weights; beyond = u .beyond }
 
     pub may-look : LastAsked w n depth
     may-look = record { states = p .weigh .states; limit = limit; room = omega (arith, u .same, p .weigh .room) }
 
-    module _ {last : ℕ} (z : Last n depth w last) {b : List ℕ} (i : Begun second n w b) {d : Divisor} (e : Prepared d q) where
-      -- what stood before and still stands
-      kept : (k : ℕ) → 6 * n ≤ k → k < 8 * n → at b k ≡ at l k
-      kept k x y = i .after k x ∙ u .before k y
+    module _ {last : ℕ} (z : Last n depth w last) where
+      pub may-read : ReadAsked mv w first second n q last
+      may-read = read-kept kept-weighed last (z .within)
 
-      weight-is : (k : ℕ) → k ≤ depth → at b (8 * n + k) ≡ low a 1000000 (a / 1000000) k
-      weight-is k h = i .after (8 * n + k) (omega arith) ∙ u .weights k h
+      module _ {b : List ℕ} (i : Read mv first second n q last false w b) where
+        kept-read : Kept b
+        kept-read = kept-on kept-weighed (i .same) (i .after)
 
-      pub may-run : RunAsked mv b first second d n last
-      may-run =
-          record {
-            sheet = rw (e .is) (record {
-              lines = p .sheet .lines;
-              room = omega (arith, i .same, u .same, p .sheet .room);
-              exits = λ s h. kept (6 * n + s) (omega arith) (omega arith) ∙ p .sheet .exits s h;
-              ends = λ s h. kept (7 * n + s) (omega arith) (omega arith) ∙ p .sheet .ends s h;
-              slow = p .sheet .slow;
-              some = p .sheet .some;
-              small = p .sheet .small;
-            });
-            divisor = e .sound;
-            in-first = p .in-first;
-            in-second = p .in-second;
-            lower = λ s h. i .lower s h ∙ low-start (at second s);
-            left = λ s h. i .left s h ∙ left-start (at second s);
-            lower-sum = i .lower-sum;
-            left-sum = i .left-sum;
-            room = omega (arith, i .same, u .same, p .weigh .room, z .within);
-            limit = omega (arith, limit, z .within);
-            weights = λ k h. rw (weight-is k (omega (arith, z .within))) (low-most middle k);
-          }
+        low-sum : (s : ℕ) → s < n → sumsAt b n s ≡ gathered a 1000000 (a / 1000000) depth (λ k. valueOf mv (length mv) q (lowPhase first second) k s)
+        low-sum s h = i .sums s h ∙ sum-is kept-weighed (lowPhase first second) s last (z .within) (z .none)
 
-      module _ {x : List ℕ} (g : Ran mv first second (d .by) n last b x) where
-        -- the steps after the last with a weight add nothing
-        rest-none : (ph : Phase) (s : ℕ) → sumOf mv b (d .by) n ph s (last + 1) ≡ sumOf mv b (d .by) n ph s (depth + 1)
-        rest-none ph s =
-            sum-rest-none (λ k. part (at b (8 * n + k)) (valueOf mv (length mv) (d .by) ph k s)) (last + 1) (depth + 1) (omega (arith, z .within))
-            (λ k h l. rw (i .after (8 * n + k) (omega arith), z .none k (omega arith) (omega arith)) (omega arith))
-
-        sum-is : (ph : Phase) (s : ℕ) → sumOf mv b (d .by) n ph s (last + 1) ≡ gathered a 1000000 (a / 1000000) depth (λ k. valueOf mv (length mv) q ph k s)
-        unfolding gathered
-        sum-is ph s =
-            rw (rest-none ph s, e .is, add-one)
-            (sum-cong (λ k. part (at b (8 * n + k)) (valueOf mv (length mv) q ph k s))
-            (λ k. part (low a 1000000 (a / 1000000) k) (valueOf mv (length mv) q ph k s)) (suc depth)
-            (λ k h. rw (weight-is k (omega arith)) refl))
-
-        most-is : (ph : Phase) → ((s : ℕ) → s < n → ph .start s ≤ 1) → (s : ℕ) → s < n
-            → sumOf mv b (d .by) n ph s (last + 1) * 4194304 ≤ total a 1000000 (a / 1000000) depth * one
-        most-is ph starts s h =
-            rw (sum-is ph s)
-            (gathered-most a 1000000 (a / 1000000) depth (λ k. valueOf mv (length mv) q ph k s)
-            (λ k c. value-most mv (length mv) n q (p .sheet .lines .targets) ph starts (p .sheet .slow) k s h))
-
-        pub may-end : EndsAsked x first second n r
-        may-end =
+        pub may-lower : LowerAsked b first second n r
+        may-lower =
             record {
               states = p .weigh .states;
-              room = omega (arith, g .same, i .same, u .same, p .sheet .room);
+              room = omega (arith, kept-read .same, p .sheet .room);
               in-first = p .in-first;
               in-second = p .in-second;
               some = omega (arith, u .all, total-peak a 1000000 (a / 1000000) depth deep);
-              divisor =
-                  (let y : depth + 2 ≤ 1026 = omega (arith, limit) in
-                  let z : peak + depth ≤ 1099511628800 = omega (arith, limit) in
-                  omega (arith, u .all, total-most a 1000000 (a / 1000000) depth middle deep, mul-bound y z));
-              lower = λ s h. rw (g .lower-sum s h, u .all)
-                  (most-is (lowPhase first second) (λ t c. bit-most (least (verdicts second) t)) s h);
-              left = λ s h. rw (g .left-sum s h, u .all)
-                  (most-is (leftPhase first second) (λ t c. omega arith) s h);
+              divisor = omega (arith, u .all, total-small);
+              sums = λ s h. rw (low-sum s h, u .all) (gathered-small false s h);
             }
 
-        pub is-summed : {z : List ℕ} → Ended first second n r x z → Summed mv first second n q a depth l z
-        unfolding lowerEnd
-        is-summed o =
-            record {
-              same = o .same ∙ g .same ∙ i .same ∙ u .same;
-              lower = λ s h. o .lower s h ∙ rw (g .lower-sum s h, sum-is (lowPhase first second) s, u .all) refl;
-              upper = λ s h. o .upper s h ∙ rw (g .left-sum s h, sum-is (leftPhase first second) s, u .all) refl;
-              rows = λ k y w. o .after k (omega arith) ∙ g .after k y ∙ kept k y w;
-              beyond = λ k y. o .after k (omega arith) ∙ g .after k (omega arith) ∙ i .after k (omega arith) ∙ u .beyond k y;
-            }
+        module _ {x : List ℕ} (o : Lowered first second n r b x) where
+          kept-lower : Kept x
+          kept-lower = kept-on kept-read (o .same) (λ k h. o .after k (omega arith))
 
-pub ruleset summed-laws = (may-weigh, some-rate, small-rate, may-look, may-begin, may-run, may-end, is-summed)
+          none-lower : (k : ℕ) → last < k → k ≤ depth → at x (8 * n + k) ≡ 0
+          none-lower k h e = o .after (8 * n + k) (omega arith) ∙ i .after (8 * n + k) (omega arith) ∙ z .none k h e
+
+          weight-same : (k : ℕ) → at x (8 * n + k) ≡ at w (8 * n + k)
+          weight-same k = o .after (8 * n + k) (omega arith) ∙ i .after (8 * n + k) (omega arith)
+
+          pub may-high : HighAsked mv x first second n q last
+          may-high =
+              record {
+                asked = read-kept kept-lower last (z .within);
+                sums = λ s h. o .after (4 * n + s) (omega arith) ∙ i .sums s h
+                    ∙ sum-cong (λ k. part (at w (8 * n + k)) (valueOf mv (length mv) q (lowPhase first second) k s))
+                    (λ k. part (at x (8 * n + k)) (valueOf mv (length mv) q (lowPhase first second) k s)) (last + 1)
+                    (λ k c. rw (weight-same k) refl);
+              }
+
+          module _ {y : List ℕ} (j : Read mv first second n q last true x y) where
+            kept-high : Kept y
+            kept-high = kept-on kept-lower (j .same) (j .after)
+
+            high-sum : (s : ℕ) → s < n → sumsAt y n s ≡ gathered a 1000000 (a / 1000000) depth (λ k. valueOf mv (length mv) q (highPhase first second) k s)
+            high-sum s h = j .sums s h ∙ sum-is kept-lower (highPhase first second) s last (z .within) none-lower
+
+            pub may-gather : GatherAsked y n depth 0
+            may-gather = gather-kept kept-high
+
+            module _ {g : ℕ} (e : g ≡ wholeOf y n depth 0) where
+              pub may-upper : UpperAsked y first second n r g
+              may-upper =
+                  record {
+                    states = p .weigh .states;
+                    room = omega (arith, kept-high .same, p .sheet .room);
+                    in-first = p .in-first;
+                    in-second = p .in-second;
+                    some = omega (arith, u .all, total-peak a 1000000 (a / 1000000) depth deep);
+                    divisor = omega (arith, u .all, total-small);
+                    most = rw (e, whole-is kept-high, u .all) (gatherable-most a 1000000 (a / 1000000) depth 0);
+                  }
+
+              module _ {v : List ℕ} (f : Uppered first second n r g y v) where
+                pub summed-length : length v ≡ length l
+                summed-length = f .same ∙ kept-high .same
+
+                pub is-summed : Summed mv first second n q a depth l v
+                unfolding lowerEnd leftEnd
+                is-summed =
+                    record {
+                      same = f .same ∙ kept-high .same;
+                      lower = λ s h. f .before s h ∙ j .before s (omega arith) ∙ o .ends s h ∙ rw (low-sum s h, u .all) refl;
+                      upper = λ s h. f .ends s h ∙ rw (high-sum s h, e, whole-is kept-high, u .all) refl;
+                      rows = λ k b d. f .after k (omega arith) ∙ kept-high .rows k b d;
+                      beyond = λ k b. f .after k (omega arith) ∙ kept-high .beyond k b;
+                    }
+
+pub ruleset summed-laws = (may-weigh, may-look, may-read, may-lower, may-high, may-gather, may-upper, summed-length, is-summed)

@@ -76,9 +76,9 @@ module _ {mv l first second : List ℕ} {n q t : ℕ} (p : UntilAsked mv l first
   unfolding topOf
   slow s h = rw (p .top) (greatest-le (exitOf mv (length mv)) s n h)
 
-  small : q ≤ 256000000
+  small : q ≤ 64000000
   unfolding topOf
-  small = rw (p .top) (greatest-most (exitOf mv (length mv)) n 256000000 (p .lines .limit))
+  small = rw (p .top) (greatest-most (exitOf mv (length mv)) n 64000000 (p .lines .limit))
 
   some : (q * t ≡ 0 → ⊥) → 0 < q
   some z = above q refl

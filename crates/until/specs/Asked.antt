@@ -1,18 +1,23 @@
 -- What the functions of until ask and promise. Assumes nothing.
 use mathlib.Core.Path.{_≡_}
-use mathlib.Core.Bool.{cond}
+use mathlib.Core.Bool.{Bool, true, cond, _&&_}
 use mathlib.Core.List.{List}
-use Prim.Native.Nat.{ℕ, suc, _+_, _*_, _-_, _/_, _^_, _≤_, _<_}
+use Prim.Native.Nat.{ℕ, zero, suc, _+_, _*_, _-_, _/_, _^_, _≤_, _<_}
 use lib.ListN.{length}
-use lib.Dec.{eqb}
+use lib.Dec.{leb, eqb}
 use Rattle.csl.specs.Limits.{billion, rateHours, spareSteps}
+use Rattle.csl.specs.Chain.{sumTo}
+use Rattle.csl.specs.Phase.{Phase}
 use Rattle.csl.specs.Fraction.{frac, roundUp}
-use Rattle.bounds.specs.Weight.{low}
-use Rattle.bounds.specs.Ends.{one, total, lowerEnd}
+use Rattle.bounds.specs.Weight.{peak, low}
+use Rattle.bounds.specs.Unit.{one, scale, grain, part}
+use Rattle.bounds.specs.Ends.{total, lowerEnd}
+use Rattle.bounds.specs.Upper.{upperEnd}
 use Rattle.bounds.specs.Values.{pointed, lowerOf, upperOf}
 use Rattle.rows.specs.Words.{at, exitOf, topOf, rowOf, Lines}
-use Rattle.step.specs.Value.{verdicts, lowPhase, leftPhase, valueOf}
+use Rattle.step.specs.Value.{verdicts, readPhase, lowPhase, highPhase, valueOf}
 use Rattle.step.specs.Asked.{Sheet}
+use Rattle.sums.specs.Asked.{sumsAt}
 
 -- "The depth D is 2 × (L rounded up to a whole number) + 40", for a load of a millionths
 abbrev pub depthOf : ℕ → ℕ
@@ -50,22 +55,83 @@ pub record Last (n depth : ℕ) (l : List ℕ) (r : ℕ) : Type 0 where
   pub above : 0 < r → 0 < at l (8 * n + r)
   pub none : (k : ℕ) → r < k → k ≤ depth → at l (8 * n + k) ≡ 0
 
--- sums to be put over the total
-pub record EndsAsked (l first second : List ℕ) (n total : ℕ) : Type 0 where
+-- two rows of verdict bytes to be looked through
+pub record DecidedAsked (first second : List ℕ) (n : ℕ) : Type 0 where
+  pub in-first : n ≤ length first
+  pub in-second : n ≤ length second
+
+-- neither row has a byte that is undecided, among the first s
+unfoldable pub bothDecided : (first second : List ℕ) → ℕ → Bool
+bothDecided first second zero = true
+bothDecided first second (suc s) = bothDecided first second s && leb (at first s) 1 && leb (at second s) 1
+
+-- the sum over steps 0 to last of weight times value of a phase; the weights are those of the list
+abbrev pub phaseSum : (mv l : List ℕ) (n q last : ℕ) → Phase → ℕ → ℕ
+phaseSum mv l n q last ph s = sumTo (λ i. part (at l (8 * n + i)) (valueOf mv (length mv) q ph i s)) (last + 1)
+
+-- such sums are to be worked out, for an until
+pub record ReadAsked (mv l first second : List ℕ) (n q last : ℕ) : Type 0 where
+  pub sheet : Sheet mv l n q
+  pub in-first : n ≤ length first
+  pub in-second : n ≤ length second
+  pub room : 8 * n + last < length l
+  pub limit : last < 1024
+  pub weights : (k : ℕ) → k ≤ last → at l (8 * n + k) ≤ peak
+
+-- only the words 2 * n to 6 * n are changed
+pub record Read (mv first second : List ℕ) (n q last : ℕ) (b : Bool) (l₀ l : List ℕ) : Type 0 where
+  pub same : length l ≡ length l₀
+  pub sums : (s : ℕ) → s < n → sumsAt l n s ≡ phaseSum mv l₀ n q last (readPhase b first second) s
+  pub before : (k : ℕ) → k < 2 * n → at l k ≡ at l₀ k
+  pub after : (k : ℕ) → 6 * n ≤ k → at l k ≡ at l₀ k
+
+-- those with undecided read as no are there
+pub record HighAsked (mv l first second : List ℕ) (n q last : ℕ) : Type 0 where
+  pub asked : ReadAsked mv l first second n q last
+  pub sums : (s : ℕ) → s < n → sumsAt l n s ≡ phaseSum mv l n q last (lowPhase first second) s
+
+-- what values of 0 would leave is to be summed, where values lack e units at step 0
+pub record GatherAsked (l : List ℕ) (n depth e : ℕ) : Type 0 where
   pub states : n ≤ 512
-  pub room : 6 * n ≤ length l
+  pub room : 8 * n + depth < length l
+  pub limit : depth < 1024
+  pub error : e ≤ one
+  pub weights : (k : ℕ) → k ≤ depth → at l (8 * n + k) ≤ peak
+
+abbrev pub wholeOf : List ℕ → ℕ → ℕ → ℕ → ℕ
+wholeOf l n depth e = sumTo (λ k. part (at l (8 * n + k)) (one - (e + k))) (depth + 1) - (depth + 1)
+
+-- sums to be put over the total
+pub record LowerAsked (l first second : List ℕ) (n total : ℕ) : Type 0 where
+  pub states : n ≤ 512
+  pub room : 5 * n ≤ length l
   pub in-first : n ≤ length first
   pub in-second : n ≤ length second
   pub some : 0 < total
   pub divisor : total < 2 ^ 52
-  pub lower : (s : ℕ) → s < n → at l (4 * n + s) * 4194304 ≤ total * one
-  pub left : (s : ℕ) → s < n → at l (5 * n + s) * 4194304 ≤ total * one
+  pub sums : (s : ℕ) → s < n → sumsAt l n s * grain ≤ total * one
 
--- only the words before 2 * n are changed
-pub record Ended (first second : List ℕ) (n total : ℕ) (l₀ l : List ℕ) : Type 0 where
+-- only the first n words are changed
+pub record Lowered (first second : List ℕ) (n total : ℕ) (l₀ l : List ℕ) : Type 0 where
   pub same : length l ≡ length l₀
-  pub lower : (s : ℕ) → s < n → at l s ≡ pointed (verdicts first s) (verdicts second s) (at l₀ (4 * n + s) * 65536 / total)
-  pub upper : (s : ℕ) → s < n → at l (n + s) ≡ pointed (verdicts first s) (verdicts second s) (billion - at l₀ (5 * n + s) * 65536 / total)
+  pub ends : (s : ℕ) → s < n → at l s ≡ pointed (verdicts first s) (verdicts second s) (sumsAt l₀ n s * scale / total)
+  pub after : (k : ℕ) → n ≤ k → at l k ≡ at l₀ k
+
+-- what they leave of the whole, likewise
+pub record UpperAsked (l first second : List ℕ) (n total whole : ℕ) : Type 0 where
+  pub states : n ≤ 512
+  pub room : 5 * n ≤ length l
+  pub in-first : n ≤ length first
+  pub in-second : n ≤ length second
+  pub some : 0 < total
+  pub divisor : total < 2 ^ 52
+  pub most : whole * grain ≤ total * one
+
+-- only the words n to 2 * n are changed
+pub record Uppered (first second : List ℕ) (n total whole : ℕ) (l₀ l : List ℕ) : Type 0 where
+  pub same : length l ≡ length l₀
+  pub ends : (s : ℕ) → s < n → at l (n + s) ≡ pointed (verdicts first s) (verdicts second s) (billion - (whole - sumsAt l₀ n s) * scale / total)
+  pub before : (k : ℕ) → k < n → at l k ≡ at l₀ k
   pub after : (k : ℕ) → 2 * n ≤ k → at l k ≡ at l₀ k
 
 pub record StillAsked (l second : List ℕ) (n : ℕ) : Type 0 where
@@ -93,7 +159,7 @@ pub record Summed (mv first second : List ℕ) (n q a depth : ℕ) (l₀ l : Lis
   pub lower : (s : ℕ) → s < n → at l s ≡ pointed (verdicts first s) (verdicts second s)
       (lowerEnd a rateHours (a / rateHours) depth (λ k. valueOf mv (length mv) q (lowPhase first second) k s))
   pub upper : (s : ℕ) → s < n → at l (n + s) ≡ pointed (verdicts first s) (verdicts second s)
-      (billion - lowerEnd a rateHours (a / rateHours) depth (λ k. valueOf mv (length mv) q (leftPhase first second) k s))
+      (upperEnd a rateHours (a / rateHours) depth 0 (λ k. valueOf mv (length mv) q (highPhase first second) k s))
   pub rows : (k : ℕ) → 6 * n ≤ k → k < 8 * n → at l k ≡ at l₀ k
   pub beyond : (k : ℕ) → 8 * n + depth < k → at l k ≡ at l₀ k
 
@@ -115,6 +181,6 @@ pub record Until (mv first second : List ℕ) (n q t : ℕ) (l₀ l : List ℕ) 
   pub lower : (s : ℕ) → s < n → at l s ≡ lowerOf (q * t) rateHours depth (verdicts first s) (verdicts second s)
       (λ k. valueOf mv (length mv) q (lowPhase first second) k s)
   pub upper : (s : ℕ) → s < n → at l (n + s) ≡ upperOf (q * t) rateHours depth (verdicts first s) (verdicts second s)
-      (λ k. valueOf mv (length mv) q (leftPhase first second) k s)
+      (λ k. valueOf mv (length mv) q (highPhase first second) k s)
   pub rows : (k : ℕ) → 6 * n ≤ k → k < 8 * n → at l k ≡ at l₀ k
   pub beyond : (k : ℕ) → 8 * n + depth < k → at l k ≡ at l₀ k

@@ -11,7 +11,7 @@ use Rattle.bounds.specs.Values.{Rounds, lowerOf, upperOf}
 use Rattle.bounds.specs.UntilEnds.{until-ends}
 use Rattle.rows.specs.Words.{at, topOf}
 use Rattle.rows.specs.Shown.{Shows, top-shown}
-use Rattle.step.specs.Value.{verdicts, lowPhase, leftPhase, valueOf}
+use Rattle.step.specs.Value.{verdicts, lowPhase, highPhase, valueOf}
 use Rattle.step.specs.Rounded.{rounds}
 use Rattle.until.specs.Asked.{Until}
 
@@ -23,8 +23,8 @@ module _ {c : Chain} {mv first second l₀ l : List ℕ} {n q t d : ℕ} (p : Sh
   pub low-rounds : Rounds c (lowPhase first second) (valueOf mv (length mv) q (lowPhase first second))
   low-rounds = rw e (rounds (lowPhase first second) p)
 
-  pub left-rounds : Rounds c (leftPhase first second) (valueOf mv (length mv) q (leftPhase first second))
-  left-rounds = rw e (rounds (leftPhase first second) p)
+  pub high-rounds : Rounds c (highPhase first second) (valueOf mv (length mv) q (highPhase first second))
+  high-rounds = rw e (rounds (highPhase first second) p)
 
   pub depth-shown : d ≡ depth c t
   unfolding depth load
@@ -35,7 +35,7 @@ module _ {c : Chain} {mv first second l₀ l : List ℕ} {n q t d : ℕ} (p : Sh
   lower-shown s h = u .lower s h ∙ rw (depth-shown, ap (λ (x : ℕ). x * t) q-shown) refl
 
   pub upper-shown : (s : ℕ) → s < n → at l (n + s) ≡ upperOf (topRate c * t) rateHours (depth c t) (verdicts first s) (verdicts second s)
-      (λ k. valueOf mv (length mv) q (leftPhase first second) k s)
+      (λ k. valueOf mv (length mv) q (highPhase first second) k s)
   upper-shown s h = u .upper s h ∙ rw (depth-shown, ap (λ (x : ℕ). x * t) q-shown) refl
 
   -- so the two ends keep every rule of the paper
@@ -43,5 +43,5 @@ module _ {c : Chain} {mv first second l₀ l : List ℕ} {n q t d : ℕ} (p : Sh
   ends-kept h s b =
       rw (lower-shown s b, upper-shown s b)
       (until-ends c t s (verdicts first) (verdicts second) (omega (arith, p .states))
-      (valueOf mv (length mv) q (lowPhase first second)) (valueOf mv (length mv) q (leftPhase first second))
-      (omega (arith, sym depth-shown, u .deep)) (λ _. low-rounds) (λ _. left-rounds))
+      (valueOf mv (length mv) q (lowPhase first second)) (valueOf mv (length mv) q (highPhase first second))
+      (omega (arith, sym depth-shown, u .deep)) (λ _. low-rounds) (λ _. high-rounds))

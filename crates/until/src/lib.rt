@@ -3,13 +3,13 @@
 // Of the words, with n states, the first 2 * n hold the ends at last, lower ones and then upper ones; the next 4 * n are worked in; the exit
 // rates begin at 6 * n, the row ends at 7 * n, the weights at 8 * n.
 ghost use mathlib.Core.Path.{_≡_};
+ghost use mathlib.Core.Bool.{true, _&&_};
+ghost use Prim.Native.Nat.{_-_};
+ghost use lib.Dec.{eqb};
 ghost use Rattle.bounds.specs.Values as values;
-ghost use Rattle.until.specs.Asked.{depthOf, Loaded, WeighAsked, Weighed, LastAsked, Last, EndsAsked, Ended, StillAsked, Still, SummedAsked, Summed, UntilAsked, Until};
-use division::Divisor;
+ghost use Rattle.until.specs.Asked.{depthOf, Loaded, WeighAsked, Weighed, LastAsked, Last, DecidedAsked, bothDecided, ReadAsked, Read, HighAsked, GatherAsked, wholeOf, LowerAsked, Lowered, UpperAsked, Uppered, StillAsked, Still, SummedAsked, Summed, UntilAsked, Until};
 
-// Ends count in billionths; rates count moves per million hours.
-pub const BILLION: u64 = 1000000000;
-
+// Rates count moves per million hours.
 pub const RATE_HOURS: u64 = 1000000;
 
 // The depth for a load of a millionths.
@@ -45,32 +45,126 @@ fn last_weighed(words: &[u64], n: usize, depth: usize) -> usize
     k
 }
 
+// Whether two verdict bytes are both no.
+pub fn both_no(f: u8, g: u8) -> bool
+    ensures { λ r. ⌜ r ≡ (eqb f 0 && eqb g 0) ⌝ }
+{
+    f == 0 && g == 0
+}
+
 // An end where the operands' verdicts leave it open, else the point end.
 pub fn pointed(f: u8, g: u8, x: u64) -> u64
     ensures { λ r. ⌜ r ≡ values.pointed (values.verdictAt f) (values.verdictAt g) x ⌝ }
 {
     if g == 1 {
-        BILLION
-    } else if step::both_no(f, g) {
+        bounds::BILLION
+    } else if both_no(f, g) {
         0
     } else {
         x
     }
 }
 
-// The two ends of each state, from the sums and the total of the weights.
-pub fn ends(words: &mut [u64], first: &[u8], second: &[u8], n: usize, total: u64)
-    requires { ⌜ EndsAsked (now words) (now first) (now second) n total ⌝ }
-    ensures { λ _. ⌜ Ended (now (first .entry)) (now (second .entry)) n total (now (words .entry)) (now (words .exit)) ⌝ }
+// a less b, or 0 where b is greater.
+pub fn less(a: u64, b: u64) -> u64
+    ensures { λ r. ⌜ r ≡ a - b ⌝ }
+{
+    if a < b { 0 } else { a - b }
+}
+
+// Whether no state is undecided in either row of verdict bytes.
+pub fn decided(first: &[u8], second: &[u8], n: usize) -> bool
+    requires { ⌜ DecidedAsked (now first) (now second) n ⌝ }
+    ensures { λ r. ⌜ r ≡ bothDecided (now (first .entry)) (now (second .entry)) n ⌝ }
 {
     let mut s: usize = 0;
     while s < n {
-        let f = first[s];
-        let g = second[s];
+        if 1 < first[s] {
+            return false;
+        }
+        if 1 < second[s] {
+            return false;
+        }
+        s += 1;
+    }
+    true
+}
+
+// The sums of weight times value over steps 0 to last, undecided operand states read as yes or as no.
+pub fn reading(
+    moves: &[u64],
+    words: &mut [u64],
+    first: &[u8],
+    second: &[u8],
+    n: usize,
+    q: u64,
+    last: usize,
+    as_yes: bool,
+)
+    requires { ⌜ ReadAsked (now moves) (now words) (now first) (now second) n q last ⌝ }
+    ensures { λ _. ⌜ Read (now (moves .entry)) (now (first .entry)) (now (second .entry)) n q last as_yes (now (words .entry)) (now (words .exit)) ⌝ }
+{
+    sums::begin(words, first, second, n, as_yes);
+    sums::run(moves, words, n, q, last);
+}
+
+// From the sums with undecided read as no, those with undecided read as yes: the same where nothing is undecided.
+pub fn high_reading(
+    moves: &[u64],
+    words: &mut [u64],
+    first: &[u8],
+    second: &[u8],
+    n: usize,
+    q: u64,
+    last: usize,
+)
+    requires { ⌜ HighAsked (now moves) (now words) (now first) (now second) n q last ⌝ }
+    ensures { λ _. ⌜ Read (now (moves .entry)) (now (first .entry)) (now (second .entry)) n q last true (now (words .entry)) (now (words .exit)) ⌝ }
+{
+    if decided(first, second, n) {
+        return;
+    }
+    reading(moves, words, first, second, n, q, last, true);
+}
+
+// What values of 0 would leave to be summed, one number for all states: each step's weight times 1 less what a value can lack there, which
+// is `error` at step 0 and a unit more at each later step; and less 1 for each step's rounding.
+pub fn gatherable(words: &[u64], n: usize, depth: usize, error: u64) -> u64
+    requires { ⌜ GatherAsked (now words) n depth error ⌝ }
+    ensures { λ r. ⌜ r ≡ wholeOf (now (words .entry)) n depth error ⌝ }
+{
+    let mut g: u64 = 0;
+    let mut k: usize = 0;
+    while k <= depth {
+        let most = less(bounds::ONE, error + (k as u64));
+        g = weights::added(g, words[8 * n + k], most);
+        k += 1;
+    }
+    less(g, (depth as u64) + 1)
+}
+
+// The lower end of each state, from the sums and the total of the weights.
+pub fn lower_ends(words: &mut [u64], first: &[u8], second: &[u8], n: usize, total: u64)
+    requires { ⌜ LowerAsked (now words) (now first) (now second) n total ⌝ }
+    ensures { λ _. ⌜ Lowered (now (first .entry)) (now (second .entry)) n total (now (words .entry)) (now (words .exit)) ⌝ }
+{
+    let mut s: usize = 0;
+    while s < n {
         let lower = weights::over(words[4 * n + s], total);
-        let left = weights::over(words[5 * n + s], total);
-        words[s] = pointed(f, g, lower);
-        words[n + s] = pointed(f, g, BILLION - left);
+        words[s] = pointed(first[s], second[s], lower);
+        s += 1;
+    }
+}
+
+// The upper end of each state: what the sums leave of what could be summed, over the total, is left of 1.
+pub fn upper_ends(words: &mut [u64], first: &[u8], second: &[u8], n: usize, total: u64, whole: u64)
+    requires { ⌜ UpperAsked (now words) (now first) (now second) n total whole ⌝ }
+    ensures { λ _. ⌜ Uppered (now (first .entry)) (now (second .entry)) n total whole (now (words .entry)) (now (words .exit)) ⌝ }
+{
+    let mut s: usize = 0;
+    while s < n {
+        let left = weights::over(less(whole, words[4 * n + s]), total);
+        words[n + s] = pointed(first[s], second[s], bounds::BILLION - left);
         s += 1;
     }
 }
@@ -82,8 +176,8 @@ pub fn still(words: &mut [u64], second: &[u8], n: usize)
 {
     let mut s: usize = 0;
     while s < n {
-        words[s] = sums::choose(second[s], 1, BILLION, 0);
-        words[n + s] = sums::choose(second[s], 0, 0, BILLION);
+        words[s] = sums::choose(second[s], 1, bounds::BILLION, 0);
+        words[n + s] = sums::choose(second[s], 0, 0, bounds::BILLION);
         s += 1;
     }
 }
@@ -102,12 +196,13 @@ pub fn summed(
     requires { ⌜ SummedAsked (now moves) (now words) (now first) (now second) n q a depth ⌝ }
     ensures { λ _. ⌜ Summed (now (moves .entry)) (now (first .entry)) (now (second .entry)) n q a depth (now (words .entry)) (now (words .exit)) ⌝ }
 {
-    let d = Divisor::new(q);
     let total = weigh(words, n, a, depth);
     let last = last_weighed(words, n, depth);
-    sums::begin(words, second, n);
-    sums::run(moves, words, first, second, d, n, last);
-    ends(words, first, second, n, total);
+    reading(moves, words, first, second, n, q, last, false);
+    lower_ends(words, first, second, n, total);
+    high_reading(moves, words, first, second, n, q, last);
+    let whole = gatherable(words, n, depth, 0);
+    upper_ends(words, first, second, n, total, whole);
 }
 
 // The two ends of each state for an until over t hours, into the first 2 * n words, and the depth; the exit rates, the row ends and q are

@@ -6,6 +6,7 @@ use native.Mathlib.Nat.{div-add-mod', mod-lt, lt-of-mul-lt-mul-right}
 use mir.Val.{Fits}
 use mir.Syntax.{w64}
 use Rattle.numbers.specs.Hint.{eq-times, div-is}
+use Rattle.bounds.specs.Unit.{scale}
 use Rattle.weights.specs.Asked.{Over}
 
 -- the code's names
@@ -18,20 +19,20 @@ half g t = g / t * 256 + rest g t / t
 abbrev whole : ℕ → ℕ → ℕ
 whole g t = half g t * 256 + rest g t % t * 256 / t
 
-over-whole : (g t : ℕ) → g * 65536 ≡ whole g t * t + rest g t % t * 256 % t
+over-whole : (g t : ℕ) → g * scale ≡ whole g t * t + rest g t % t * 256 % t
 over-whole g t =
     omega (
       arith,
-      eq-times 65536 (div-add-mod' g t),
+      eq-times scale (div-add-mod' g t),
       eq-times 256 (div-add-mod' (rest g t) t),
       div-add-mod' (rest g t % t * 256) t,
     )
 
 module _ {g t : ℕ} (p : Over g t) where
-  pub over-is : whole g t ≡ g * 65536 / t
+  pub over-is : whole g t ≡ g * scale / t
   over-is =
       sym
-      (div-is (whole g t) (g * 65536) t (omega (arith, over-whole g t))
+      (div-is (whole g t) (g * scale) t (omega (arith, over-whole g t))
       (omega (arith, over-whole g t, mod-lt (rest g t % t * 256) (p .some))))
 
   pub over-fits : Fits w64 (whole g t)

@@ -4,7 +4,7 @@ use mathlib.Core.List.{List}
 use Prim.Native.Nat.{ℕ, _+_, _*_, _/_, _^_, _≤_, _<_}
 use lib.ListN.{length, getD}
 use Rattle.bounds.specs.Weight.{peak, Middle, low, apart}
-use Rattle.bounds.specs.Ends.{one}
+use Rattle.bounds.specs.Unit.{one, scale, part}
 
 -- a weight at or before the largest one: k * b is at most a
 pub record Fall (w k a b : ℕ) : Type 0 where
@@ -25,13 +25,13 @@ pub record Rise (w k a b : ℕ) : Type 0 where
 pub record Adds (sum w v : ℕ) : Type 0 where
   pub weight : w ≤ peak
   pub value : v ≤ one
-  pub fits : sum + w * v / 4194304 < 2 ^ 64
+  pub fits : sum + part w v < 2 ^ 64
 
 -- a sum of such products, to be put over the total
 pub record Over (g t : ℕ) : Type 0 where
   pub some : 0 < t
   pub divisor : t < 2 ^ 52
-  pub fits : g * 65536 < 2 ^ 64 * t
+  pub fits : g * scale < 2 ^ 64 * t
 
 -- the weights below the middle
 pub record Half (w : List ℕ) (m a b : ℕ) : Type 0 where

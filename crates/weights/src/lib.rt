@@ -4,6 +4,7 @@ ghost use Prim.Native.Nat.{_+_, _*_, _-_, _/_};
 ghost use Rattle.csl.specs.Chain.{sumTo};
 ghost use Rattle.numbers.specs.Table.{Table};
 ghost use Rattle.bounds.specs.Weight.{low};
+ghost use Rattle.bounds.specs.Unit.{scale, part};
 ghost use Rattle.bounds.specs.Ends as ends;
 ghost use Rattle.weights.specs.Asked.{Fall, Rise, Adds, Over, Half, Rest, weighed, Total, Weigh};
 
@@ -23,22 +24,25 @@ pub fn after(w: u64, k: u64, a: u64, b: u64) -> u64
     division::muldiv(w, a, k * b)
 }
 
-// A sum with a weight times a value added, in units of 2^22, rounded down.
+// A sum with a weight times a value added, rounded down.
 pub fn added(sum: u64, w: u64, v: u64) -> u64
     requires { ⌜ Adds sum w v ⌝ }
-    ensures { λ r. ⌜ r ≡ sum + w * v / 4194304 ⌝ }
+    ensures { λ r. ⌜ r ≡ sum + part w v ⌝ }
 {
-    sum + (w / 4194304 * v + w % 4194304 * v / 4194304)
+    sum + (w / bounds::GRAIN * v + w % bounds::GRAIN * v / bounds::GRAIN)
 }
+
+// The scale of a sum is two digits of this size.
+const DIGIT: u64 = 256;
 
 // A sum over the total of the weights, in billionths, rounded down.
 pub fn over(g: u64, t: u64) -> u64
     requires { ⌜ Over g t ⌝ }
-    ensures { λ r. ⌜ r ≡ g * 65536 / t ⌝ }
+    ensures { λ r. ⌜ r ≡ g * scale / t ⌝ }
 {
-    let u = g % t * 256;
-    let h = g / t * 256 + u / t;
-    h * 256 + u % t * 256 / t
+    let u = g % t * DIGIT;
+    let h = g / t * DIGIT + u / t;
+    h * DIGIT + u % t * DIGIT / t
 }
 
 // How many steps lie between m and k.

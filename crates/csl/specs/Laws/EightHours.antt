@@ -10,7 +10,7 @@ use Rattle.csl.specs.Text.{bytes}
 use Rattle.csl.specs.Formula.{until, AtMost}
 use Rattle.csl.specs.Fraction.{Fraction, IsFraction, Below, times, over, plus, sumUp, billionths}
 use Rattle.csl.specs.Chain.{Chain, load, depth}
-use Rattle.csl.specs.Phase.{Phase, untilPhase, stepValue, quotient, untilQuotient, weight}
+use Rattle.csl.specs.Phase.{untilPhase, stepValue, quotient, untilQuotient, weight}
 use Rattle.csl.specs.Verdicts.{Verdict, Yes, judged}
 use Rattle.csl.specs.Ends.{EndsAt}
 use Rattle.csl.specs.Backing.{Backed}
@@ -19,10 +19,11 @@ use Rattle.csl.specs.Refusal.{jobChain}
 use Rattle.csl.specs.Bench.{small, up, dead, EightHours}
 use Rattle.csl.specs.Laws.Computing.{computing}
 use Rattle.csl.specs.Laws.Fraction.{below-trans}
-use Rattle.csl.specs.Laws.Steps.{divisor-some}
+use Rattle.csl.specs.Laws.Steps.{step-le, divisor-some}
+use Rattle.csl.specs.Laws.Quotient.{until-starts}
 use Rattle.csl.specs.Laws.Readings.{marks-decided, low-marks, high-marks}
 use Rattle.csl.specs.Laws.Tail.{Light, light-from, later}
-use Rattle.csl.specs.Laws.Complement.{complement, upper-left, until-share}
+use Rattle.csl.specs.Laws.Left.{leftOf, left-above}
 
 abbrev pub sheet : Chain
 sheet = jobChain (small "P <= 10000000 U 8 up dead\n")
@@ -49,11 +50,15 @@ over-end = lit< tt
 abbrev pub summed : (ℕ → Fraction) → Fraction
 summed v = over (sumUp (λ k. times (weight (load sheet 8) k) (v k)) 42) (plus (sumUp (weight (load sheet 8)) 42) (weight (load sheet 8) 42))
 
+-- the step values of state 0; what is summed of them, and of what they leave of 1
+abbrev pub values : ℕ → Fraction
+values = stepValue sheet (untilPhase isUp isDead) 0
+
 abbrev pub kept : Fraction
-kept = summed (stepValue sheet (untilPhase isUp isDead) 0)
+kept = summed values
 
 abbrev pub missed : Fraction
-missed = summed (stepValue sheet (complement (untilPhase isUp isDead)) 0)
+missed = summed (leftOf values)
 
 kept-least : 3992010 * kept .bottom < kept .top * 1000000000
 unfolding computing
@@ -75,15 +80,16 @@ load-is = omega arith
 light : Light (load sheet 8) 42
 light = light-from sheet 8 42 (omega (arith, depth-is))
 
-from-depth : (ph : Phase) (a : ℕ) → 0 < ph .whole → 0 < summed (stepValue sheet ph 0) .bottom
-    → a * summed (stepValue sheet ph 0) .bottom < summed (stepValue sheet ph 0) .top * 1000000000
-    → (n : ℕ) → 42 ≤ n → Below (billionths a) (quotient (load sheet 8) (stepValue sheet ph 0) n)
-from-depth ph a w is h n l =
+from-depth : (v : ℕ → Fraction) (a : ℕ) → ((k : ℕ) → IsFraction (v k)) → 0 < summed v .bottom → a * summed v .bottom < summed v .top * 1000000000
+    → (n : ℕ) → 42 ≤ n → Below (billionths a) (quotient (load sheet 8) v n)
+from-depth v a are is h n l =
     let e : 42 + (n - 42) ≡ n = omega arith in
-    let k : Below (billionths a) (quotient (load sheet 8) (stepValue sheet ph 0) (42 + (n - 42)))
-    = below-trans (billionths a) (summed (stepValue sheet ph 0)) _ is (le-of-lt h)
-    (later (load sheet 8) load-is 42 light (stepValue sheet ph 0) (divisor-some sheet (ph .whole) w) (n - 42)) in
+    let k : Below (billionths a) (quotient (load sheet 8) v (42 + (n - 42)))
+    = below-trans (billionths a) (summed v) _ is (le-of-lt h) (later (load sheet 8) load-is 42 light v are (n - 42)) in
     rw e at k
+
+values-are : (k : ℕ) → IsFraction (values k)
+values-are = divisor-some sheet 1 (omega arith)
 
 kept-is : 0 < kept .bottom
 unfolding computing
@@ -98,13 +104,13 @@ unfolding computing
 two-states = refl
 
 pub at-least : (n : ℕ) → 42 ≤ n → Below (billionths 3992010) (untilQuotient sheet 8 isUp isDead 0 n)
-at-least = from-depth (untilPhase isUp isDead) 3992010 (omega arith) kept-is kept-least
+at-least = from-depth values 3992010 values-are kept-is kept-least
 
 pub at-most : (n : ℕ) → 42 ≤ n → Below (untilQuotient sheet 8 isUp isDead 0 n) (billionths 3992011)
 at-most n l =
-    upper-left _ (untilQuotient sheet 8 isUp isDead 0 n) 996007989 3992011
-    (until-share sheet 8 isUp isDead 0 (omega (arith, two-states)) n) (omega arith)
-    (from-depth (complement (untilPhase isUp isDead)) 996007989 (omega arith) missed-is missed-least n l)
+    left-above (load sheet 8) values
+    (λ k. step-le sheet (untilPhase isUp isDead) (until-starts sheet isUp isDead) k 0 (omega (arith, two-states))) n 996007989 3992011 (omega arith)
+    (from-depth (leftOf values) 996007989 values-are missed-is missed-least n l)
 
 -- every report of `P <= 10000000 U 8 up dead`
 end-under : (x : Fraction) (a m : ℕ) → Below (billionths a) x → x .top * 1000000000 < m * x .bottom → a < m

@@ -1,15 +1,15 @@
 -- `step` meets its contract. Assumes nothing.
-use Prim.Native.Nat.{_-_}
+use Prim.Native.Nat.{_-_, _+_}
 use borrow.Author.Needs.{needs}
 use Rattle.step.proofs.StepLaw.{Inv, step-laws}
 use Rattle.step.proofs.step.Statement.{statement}
 use Rattle.step.proofs.step.Tie as tie
 
 abbrev Inv-loop : tie.InvT-loop
-Inv-loop moves words₀ first second d n begin₀ s₀ words begin s = Inv moves words₀ words first second d n begin s
+Inv-loop moves words₀ n q begin₀ s₀ words begin s = Inv moves words₀ words n q begin s
 
 abbrev μ-loop : tie.MeasureT-loop
-μ-loop moves words₀ first second d n begin₀ s₀ words begin s = n - s
+μ-loop moves words₀ n q begin₀ s₀ words begin s = n - s
 
 loop-holds : tie.Need-loop-holds Inv-loop μ-loop
 loop-holds c = search (needs, step-laws)
@@ -40,18 +40,6 @@ mul-words-2 c = search (needs, step-laws)
 
 slice-write-words : tie.Need-slice-write-words Inv-loop μ-loop
 slice-write-words c = search (needs, step-laws)
-
-mul-words-3 : tie.Need-mul-words-3 Inv-loop μ-loop
-mul-words-3 c = search (needs, step-laws)
-
-add-words-2 : tie.Need-add-words-2 Inv-loop μ-loop
-add-words-2 c = search (needs, step-laws)
-
-mul-words-4 : tie.Need-mul-words-4 Inv-loop μ-loop
-mul-words-4 c = search (needs, step-laws)
-
-slice-write-words-2 : tie.Need-slice-write-words-2 Inv-loop μ-loop
-slice-write-words-2 c = search (needs, step-laws)
 
 add-s : tie.Need-add-s Inv-loop μ-loop
 add-s c = search (needs, step-laws)
@@ -84,10 +72,6 @@ step-spec =
     add-words
     mul-words-2
     slice-write-words
-    mul-words-3
-    add-words-2
-    mul-words-4
-    slice-write-words-2
     add-s
     loop-less
     loop-again

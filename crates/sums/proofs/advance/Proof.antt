@@ -1,18 +1,15 @@
 -- `advance` meets its contract. Assumes nothing.
-use Prim.Native.Nat.{_-_}
+use Prim.Native.Nat.{_-_, _+_}
 use borrow.Author.Needs.{needs}
 use Rattle.sums.proofs.AdvanceLaw.{Inv, advance-laws}
 use Rattle.sums.proofs.advance.Statement.{statement}
 use Rattle.sums.proofs.advance.Tie as tie
 
 abbrev Inv-loop : tie.InvT-loop
-Inv-loop words₀ n w end i₀ words i = Inv words₀ words n w end i
+Inv-loop words₀ n w i₀ words i = Inv words₀ words n w i
 
 abbrev μ-loop : tie.MeasureT-loop
-μ-loop words₀ n w end i₀ words i = end - i
-
-add-end : tie.Need-add-end Inv-loop μ-loop
-add-end c = search (needs, advance-laws)
+μ-loop words₀ n w i₀ words i = n - i
 
 loop-holds : tie.Need-loop-holds Inv-loop μ-loop
 loop-holds c = search (needs, advance-laws)
@@ -32,6 +29,12 @@ slice-read-x c = search (needs, advance-laws)
 mul-words : tie.Need-mul-words Inv-loop μ-loop
 mul-words c = search (needs, advance-laws)
 
+add-words : tie.Need-add-words Inv-loop μ-loop
+add-words c = search (needs, advance-laws)
+
+mul-words-2 : tie.Need-mul-words-2 Inv-loop μ-loop
+mul-words-2 c = search (needs, advance-laws)
+
 slice-write-words : tie.Need-slice-write-words Inv-loop μ-loop
 slice-write-words c = search (needs, advance-laws)
 
@@ -50,14 +53,14 @@ slice-read-added c = search (needs, advance-laws)
 added-requires : tie.Need-added-requires Inv-loop μ-loop
 added-requires c κs = search (needs, advance-laws)
 
-mul-words-2 : tie.Need-mul-words-2 Inv-loop μ-loop
-mul-words-2 c = search (needs, advance-laws)
-
-add-words : tie.Need-add-words Inv-loop μ-loop
-add-words c = search (needs, advance-laws)
-
 mul-words-3 : tie.Need-mul-words-3 Inv-loop μ-loop
 mul-words-3 c = search (needs, advance-laws)
+
+add-words-2 : tie.Need-add-words-2 Inv-loop μ-loop
+add-words-2 c = search (needs, advance-laws)
+
+mul-words-4 : tie.Need-mul-words-4 Inv-loop μ-loop
+mul-words-4 c = search (needs, advance-laws)
 
 slice-write-words-2 : tie.Need-slice-write-words-2 Inv-loop μ-loop
 slice-write-words-2 c = search (needs, advance-laws)
@@ -83,22 +86,23 @@ advance-spec =
     (tie.spec
     Inv-loop
     μ-loop
-    add-end
     loop-holds
     mul-x
     add-x
     mul-x-2
     slice-read-x
     mul-words
+    add-words
+    mul-words-2
     slice-write-words
     mul-added
     add-added
     mul-added-2
     slice-read-added
     added-requires
-    mul-words-2
-    add-words
     mul-words-3
+    add-words-2
+    mul-words-4
     slice-write-words-2
     add-i
     loop-less

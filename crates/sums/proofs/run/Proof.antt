@@ -6,10 +6,10 @@ use Rattle.sums.proofs.run.Statement.{statement}
 use Rattle.sums.proofs.run.Tie as tie
 
 abbrev Inv-loop : tie.InvT-loop
-Inv-loop moves words₀ first second d n depth k₀ words k = Inv moves words₀ words first second d n depth k
+Inv-loop moves words₀ n q depth k₀ words k = Inv moves words₀ words n q depth k
 
 abbrev μ-loop : tie.MeasureT-loop
-μ-loop moves words₀ first second d n depth k₀ words k = depth + 1 - k
+μ-loop moves words₀ n q depth k₀ words k = depth - k
 
 loop-holds : tie.Need-loop-holds Inv-loop μ-loop
 loop-holds c = search (needs, run-laws)
@@ -29,6 +29,12 @@ slice-read-w c = search (needs, run-laws)
 advance-requires : tie.Need-advance-requires Inv-loop μ-loop
 advance-requires c κs = search (needs, run-laws)
 
+same-length : tie.Need-same-length Inv-loop μ-loop
+same-length c = search (needs, run-laws)
+
+returns : tie.Need-returns Inv-loop μ-loop
+returns c = search (needs, run-laws)
+
 step-requires : tie.Need-step-requires Inv-loop μ-loop
 step-requires c κs = search (needs, run-laws)
 
@@ -40,12 +46,6 @@ loop-less c = search (needs, run-laws)
 
 loop-again : tie.Need-loop-again Inv-loop μ-loop
 loop-again c = search (needs, run-laws)
-
-same-length : tie.Need-same-length Inv-loop μ-loop
-same-length c = search (needs, run-laws)
-
-returns : tie.Need-returns Inv-loop μ-loop
-returns c = search (needs, run-laws)
 
 pub run-spec : {M : Type 1} → statement M
 run-spec =
@@ -59,9 +59,9 @@ run-spec =
     mul-w-2
     slice-read-w
     advance-requires
+    same-length
+    returns
     step-requires
     add-k
     loop-less
-    loop-again
-    same-length
-    returns)
+    loop-again)

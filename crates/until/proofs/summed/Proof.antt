@@ -1,49 +1,81 @@
 -- `summed` meets its contract. Assumes nothing.
+use Rattle.until.proofs.SummedLaw.{summed-laws, may-lower, may-high, may-gather, may-upper, is-summed}
 use borrow.Author.Needs.{needs}
-use Rattle.until.proofs.SummedLaw.{summed-laws, may-end}
 use Rattle.until.proofs.summed.Statement.{statement}
 use Rattle.until.proofs.summed.Tie as tie
-
-new-requires : tie.Need-new-requires
-new-requires c κs = search needs
 
 weigh-requires : tie.Need-weigh-requires
 weigh-requires c κs = search needs
 
 last-weighed-requires : tie.Need-last-weighed-requires
-last-weighed-requires c κs = search (needs, summed-laws)
+last-weighed-requires c κs = search needs
 
-begin-requires : tie.Need-begin-requires
-begin-requires c κs = search needs
+reading-requires : tie.Need-reading-requires
+reading-requires c κs = search (needs, summed-laws)
 
-run-requires : tie.Need-run-requires
-run-requires c κs = search (needs, summed-laws)
-
-ends-requires : tie.Need-ends-requires
-ends-requires c κs =
-    let run = c .before .before .before in
-    let begun = run .before .before .before .before in
-    let looked = begun .before .before in
+lower-ends-requires : tie.Need-lower-ends-requires
+lower-ends-requires c κs =
+    let read = c .before .before .before in
+    let looked = read .before .before in
     let weighed = looked .before .before .before .before in
-    let divisor = weighed .before .before in
-    let entry = divisor .before .before .before .before .before in
-    may-end (entry .pre) (weighed .weigh .ensures) (looked .last-weighed .ensures) (begun .begin .ensures) (divisor .new .ensures) (run .run .ensures)
+    let entry = weighed .before .before .before .before .before .before in
+    may-lower (entry .pre) (weighed .weigh .ensures) (looked .last-weighed .ensures) (read .reading .ensures)
+
+high-reading-requires : tie.Need-high-reading-requires
+high-reading-requires c κs =
+    let lowered = c .before .before .before in
+    let read = lowered .before .before .before .before in
+    let looked = read .before .before in
+    let weighed = looked .before .before .before .before in
+    let entry = weighed .before .before .before .before .before .before in
+    may-high (entry .pre) (weighed .weigh .ensures) (looked .last-weighed .ensures) (read .reading .ensures) (lowered .lower-ends .ensures)
+
+gatherable-requires : tie.Need-gatherable-requires
+gatherable-requires c κs =
+    let high = c .before .before .before in
+    let lowered = high .before .before .before .before in
+    let read = lowered .before .before .before .before in
+    let looked = read .before .before in
+    let weighed = looked .before .before .before .before in
+    let entry = weighed .before .before .before .before .before .before in
+    may-gather (entry .pre) (weighed .weigh .ensures) (looked .last-weighed .ensures) (read .reading .ensures) (lowered .lower-ends .ensures) (high .high-reading .ensures)
+
+upper-ends-requires : tie.Need-upper-ends-requires
+upper-ends-requires c κs =
+    let gathered = c .before in
+    let high = gathered .before .before .before .before in
+    let lowered = high .before .before .before .before in
+    let read = lowered .before .before .before .before in
+    let looked = read .before .before in
+    let weighed = looked .before .before .before .before in
+    let entry = weighed .before .before .before .before .before .before in
+    may-upper (entry .pre) (weighed .weigh .ensures) (looked .last-weighed .ensures) (read .reading .ensures) (lowered .lower-ends .ensures) (high .high-reading .ensures) (gathered .gatherable .ensures)
 
 same-length : tie.Need-same-length
 same-length c = search needs
 
 returns : tie.Need-returns
-returns c = search (needs, summed-laws)
+returns c =
+    let upper = c .before .before in
+    let gathered = upper .before .before in
+    let high = gathered .before .before .before .before in
+    let lowered = high .before .before .before .before in
+    let read = lowered .before .before .before .before in
+    let looked = read .before .before in
+    let weighed = looked .before .before .before .before in
+    let entry = weighed .before .before .before .before .before .before in
+    is-summed (entry .pre) (weighed .weigh .ensures) (looked .last-weighed .ensures) (read .reading .ensures) (lowered .lower-ends .ensures) (high .high-reading .ensures) (gathered .gatherable .ensures) (upper .upper-ends .ensures)
 
 pub summed-spec : {M : Type 1} → statement M
 summed-spec =
     tie.close
     (tie.spec
-    new-requires
     weigh-requires
     last-weighed-requires
-    begin-requires
-    run-requires
-    ends-requires
+    reading-requires
+    lower-ends-requires
+    high-reading-requires
+    gatherable-requires
+    upper-ends-requires
     same-length
     returns)

@@ -1,8 +1,8 @@
 -- `both_no` meets its contract. Assumes nothing.
 use borrow.Author.Needs.{needs}
-use Rattle.step.proofs.ByteLaw.{byte-laws}
-use Rattle.step.proofs.both_no.Statement.{statement}
-use Rattle.step.proofs.both_no.Tie as tie
+use Rattle.until.proofs.DecidedLaw.{byte-laws}
+use Rattle.until.proofs.both_no.Statement.{statement}
+use Rattle.until.proofs.both_no.Tie as tie
 
 returns : tie.Need-returns
 returns c = search (needs, byte-laws)

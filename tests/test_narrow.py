@@ -1,0 +1,136 @@
+"""How narrow the intervals are where no operand state is undecided: jobs of the bench, made jobs, hard chains, and loads of all sizes."""
+import random
+import tempfile
+import unittest
+from pathlib import Path
+
+from bench import sheets
+from reckoning.report import read_report
+from tests.jobs import MOST_LOAD, MOST_RATE, Sheet, labels_text, moves_text
+from tests.program import run
+
+WIDEST = 2                  # billionths, at every load that is not refused
+MADE = 500
+CHAINS = 500
+LOADS = 1_000
+SIGNS = [b"<", b"<=", b">=", b">"]
+
+
+class Narrow(unittest.TestCase):
+    def narrow(self, jobs):
+        """Every interval of every job is narrow, and there are intervals that are no point."""
+        widths = [width for job in jobs for width in widths_of(job)]
+        print(f"{self.id().split('.')[-1]}: {len(widths)} intervals, the widest {max(widths)} billionths")
+        self.assertLessEqual(max(widths), WIDEST)
+        self.assertGreater(max(widths), 0)
+
+    def test_bench(self):
+        with tempfile.TemporaryDirectory() as folder:
+            self.narrow(list(bench_jobs(Path(folder))))
+
+    def test_made_jobs(self):
+        rng = random.Random(4)
+        self.narrow(made_job(rng) for _ in range(MADE))
+
+    def test_lines_and_rings(self):
+        rng = random.Random(3)
+        self.narrow([*map(line_job, (2, 12, 40, 160)), *(ring_job(rng) for _ in range(40))])
+
+    def test_hard_chains(self):
+        rng = random.Random(5)
+        self.narrow(chain_job(rng) for _ in range(CHAINS))
+
+    def test_loads(self):
+        rng = random.Random(6)
+        whole = [(1_000_000, hours) for hours in range(1, 65)]
+        self.narrow(load_job(*load) for load in whole + [random_load(rng) for _ in range(LOADS)])
+
+
+def widths_of(job):
+    """The width of each interval of a report."""
+    states = len(job[1].split(b"\n")) - 2
+    return [row.upper - row.lower for row in read_report(run(job), states)]
+
+
+def bench_jobs(folder):
+    """Every job that the bench takes the time of."""
+    for states, per_state in sheets.SIZES + sheets.SHAPES:
+        sheets.write(folder, states, per_state)
+        moves, labels = ((folder / name).read_bytes() for name in ("moves.txt", "labels.txt"))
+        for hours in sheets.HOURS:
+            yield moves, labels, sheets.until(hours).encode() + b"\n"
+
+
+def until(rng, hours, first, second):
+    """An until over two labels, which no state leaves undecided."""
+    return b"P %s %d U %d %s %s\n" % (rng.choice(SIGNS), rng.randint(0, 10**9), hours, first, second)
+
+
+def made_job(rng):
+    """A random sheet with an until over two of its labels."""
+    sheet = Sheet(rng, 8)
+    return sheet.moves_text, sheet.labels_text, until(rng, sheet.hours(rng, 64), rng.choice(sheet.names), rng.choice(sheet.names))
+
+
+def line_job(states):
+    """A line at full load, from its first state to its last."""
+    moves = [(s, s + 1, MOST_RATE) for s in range(states - 1)]
+    return moves_text(moves), ends_text(states), b"P < 500000000 U 1 tt last\n"
+
+
+def ring_job(rng):
+    """A ring with rates from 1 up to what the hours allow."""
+    states, hours = rng.randint(3, 20), rng.choice([1, 8, 720, 8_760])
+    most = min(MOST_RATE - 1, MOST_LOAD // hours)
+    moves = sorted((s, (s + 1) % states, rng.choice([1, 7, most // 3 + 1, most])) for s in range(states))
+    return moves_text(moves), ends_text(states), b"P < 500000000 U %d tt last\n" % hours
+
+
+def ends_text(states):
+    """Labels whose one name marks the last state."""
+    return labels_text([b"last"], [[int(s == states - 1)] for s in range(states)])
+
+
+def chain_job(rng):
+    """A small stiff chain of some shape: rates of 1 beside rates near the greatest, operands drawn for each state."""
+    states, top = rng.randint(2, 8), rng.choice([MOST_RATE, rng.randint(2, MOST_RATE), rng.randint(2, 1_000)])
+    rows = [row_of(rng, s, states, top) for s in range(states)]
+    exits = [sum(rate for _, rate in row) for row in rows]
+    hours = rng.choice([1, most_hours(max(exits)), rng.randint(1, most_hours(max(exits)))])
+    marks = [rng.choice([[0, 0], [1, 0], [1, 0], [1, 0], [0, 1]]) for _ in range(states)]
+    moves = sorted((s, to, rate) for s, row in enumerate(rows) for to, rate in row)
+    return moves_text(moves), labels_text([b"first", b"second"], marks), until(rng, hours, b"first", b"second")
+
+
+def row_of(rng, state, states, top):
+    """Moves out of a state, their rates at most `top` together."""
+    targets = rng.sample([s for s in range(states) if s != state], rng.randint(0, min(4, states - 1)))
+    left, row = top, []
+    for to in targets:
+        rate = rng.choice([1, rng.randint(1, max(1, left // 2)), max(1, left - 4)])
+        row.append((to, rate))
+        left -= rate
+        if left < 1:
+            break
+    return row
+
+
+def most_hours(rate):
+    """The most hours that a greatest exit rate allows."""
+    return min(8_760, MOST_LOAD // max(1, rate))
+
+
+def random_load(rng):
+    """A rate and hours, the rate of any size."""
+    rate = rng.choice([rng.randint(1, MOST_RATE), rng.randint(1, 64_000), 2 ** rng.randint(0, 25)])
+    return rate, rng.choice([1, most_hours(rate), rng.randint(1, most_hours(rate))])
+
+
+def load_job(rate, hours):
+    """Three states on the way to a dead one, the first left at the full rate, the others at a half and a third of it."""
+    moves = [(0, 1, rate), (1, 2, rate // 2 + 1), (2, 3, rate // 3 + 1)]
+    return moves_text(moves), ends_text(4), b"P < 500000000 U %d tt last\n" % hours
+
+
+if __name__ == "__main__":
+    unittest.main()
