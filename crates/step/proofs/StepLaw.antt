@@ -1,9 +1,10 @@
 -- All states' steps, row after row. Assumes nothing.
-use mathlib.Core.Path.{_≡_, refl, sym, _∙_}
+use mathlib.Core.Path.{_≡_, refl, ap, sym, _∙_}
 use mathlib.Core.List.{List}
 use Prim.Native.Nat.{ℕ, suc, _+_, _*_, _≤_, _<_}
 use native.Mathlib.Omega.{arith}
 use native.Mathlib.Numerals.{add-one}
+use lib.Dec.{ltb}
 use lib.ListN.{length, set, length-set}
 use lib.Seq.{getD-set-same, getD-set-other}
 use borrow.Author.Count.{below-more}
@@ -11,7 +12,7 @@ use mir.Val.{Fits}
 use mir.Syntax.{w64}
 use Rattle.rows.specs.Words.{at, rowOf}
 use Rattle.rows.specs.Sorted.{row-zero, row-most}
-use Rattle.step.specs.Value.{next, valuesAt, nextAt, kindsAt}
+use Rattle.step.specs.Value.{next, valuesAt, nextAt, heldAt}
 use Rattle.step.specs.Bound.{next-cong}
 use Rattle.step.specs.Asked.{Sheet, StepAsked, StateAsked, Stepped}
 
@@ -20,7 +21,7 @@ pub record Inv (mv l₀ l : List ℕ) (n q begin s : ℕ) : Type 0 where
   pub within : s ≤ n
   pub begins : begin ≡ rowOf mv (length mv) s
   pub same : length l ≡ length l₀
-  pub values : (g : ℕ) → g < s → nextAt l n g ≡ next mv (length mv) q (kindsAt l₀ n) (valuesAt l₀ n) g
+  pub values : (g : ℕ) → g < s → nextAt l n g ≡ next mv (length mv) q (heldAt l₀ n q) (valuesAt l₀ n) g
   pub before : (k : ℕ) → k < 3 * n → at l k ≡ at l₀ k
   pub after : (k : ℕ) → 4 * n ≤ k → at l k ≡ at l₀ k
 
@@ -82,18 +83,21 @@ module _ {mv l₀ l : List ℕ} {n q begin s : ℕ} (v : Inv mv l₀ l n q begin
             small = sheet .small;
           };
           values = λ g b. rw (v .before (2 * n + g) (omega arith)) (v .asked .values g b);
+          stays = λ g b e.
+              let i : at l (5 * n + g) ≡ at l₀ (5 * n + g) = v .after (5 * n + g) (omega arith) in
+              i ∙ v .asked .stays g b (rw i at e);
         };
         here = h;
         begins = v .begins;
         ends = end-is;
       }
 
-  module _ {r : ℕ} (u : r ≡ next mv (length mv) q (kindsAt l n) (valuesAt l n) s) where
-    value-is : r ≡ next mv (length mv) q (kindsAt l₀ n) (valuesAt l₀ n) s
+  module _ {r : ℕ} (u : r ≡ next mv (length mv) q (heldAt l n q) (valuesAt l n) s) where
+    value-is : r ≡ next mv (length mv) q (heldAt l₀ n q) (valuesAt l₀ n) s
     value-is =
         u
-        ∙ next-cong mv (length mv) n q (sheet .lines .targets) (kindsAt l n) (kindsAt l₀ n) (valuesAt l n) (valuesAt l₀ n)
-        (λ g b. v .after (5 * n + g) (omega arith)) (λ g b. v .before (2 * n + g) (omega arith)) s h
+        ∙ next-cong mv (length mv) n q (sheet .lines .targets) (heldAt l n q) (heldAt l₀ n q) (valuesAt l n) (valuesAt l₀ n)
+        (λ g b. ap (ltb q) (v .after (5 * n + g) (omega arith))) (λ g b. v .before (2 * n + g) (omega arith)) s h
 
     -- a word that is not the one stored
     others : (k : ℕ) → (k ≡ 3 * n + s → ⊥) → at (set l (3 * n + s) r) k ≡ at l k

@@ -1,13 +1,14 @@
 -- What the functions of a step ask and promise. Of the lent words those from 2 * n on hold the values, those from 3 * n on the values one
--- step on, those from 5 * n on the kinds; the exit rates begin at 6 * n, the row ends at 7 * n. Assumes nothing.
+-- step on, those from 5 * n on what stays put; the exit rates begin at 6 * n, the row ends at 7 * n. Assumes nothing.
 use mathlib.Core.Path.{_≡_}
 use mathlib.Core.List.{List}
-use Prim.Native.Nat.{ℕ, suc, _+_, _*_, _^_, _≤_, _<_}
+use mathlib.Core.Bool.{false}
+use Prim.Native.Nat.{ℕ, suc, _+_, _*_, _-_, _^_, _≤_, _<_}
 use lib.ListN.{length}
 use Rattle.csl.specs.Chain.{sumTo}
 use Rattle.bounds.specs.Unit.{one}
 use Rattle.rows.specs.Words.{at, toOf, exitOf, rowOf, pull, Lines}
-use Rattle.step.specs.Value.{next, valuesAt, nextAt, kindsAt}
+use Rattle.step.specs.Value.{next, valuesAt, nextAt, heldAt}
 
 -- a row to be added up
 pub record RowAsked (mv l : List ℕ) (n begin end x : ℕ) : Type 0 where
@@ -35,6 +36,7 @@ pub record Sheet (mv l : List ℕ) (n q : ℕ) : Type 0 where
 pub record StepAsked (mv l : List ℕ) (n q : ℕ) : Type 0 where
   pub sheet : Sheet mv l n q
   pub values : (s : ℕ) → s < n → valuesAt l n s ≤ one
+  pub stays : (s : ℕ) → s < n → heldAt l n q s ≡ false → at l (5 * n + s) ≡ q - exitOf mv (length mv) s
 
 -- state s is, whose row is that from begin to end
 pub record StateAsked (mv l : List ℕ) (n q s begin end : ℕ) : Type 0 where
@@ -46,6 +48,6 @@ pub record StateAsked (mv l : List ℕ) (n q s begin end : ℕ) : Type 0 where
 -- all states have taken a step, and only the words 3 * n to 4 * n are changed
 pub record Stepped (mv : List ℕ) (n q : ℕ) (l₀ l : List ℕ) : Type 0 where
   pub same : length l ≡ length l₀
-  pub values : (s : ℕ) → s < n → nextAt l n s ≡ next mv (length mv) q (kindsAt l₀ n) (valuesAt l₀ n) s
+  pub values : (s : ℕ) → s < n → nextAt l n s ≡ next mv (length mv) q (heldAt l₀ n q) (valuesAt l₀ n) s
   pub before : (k : ℕ) → k < 3 * n → at l k ≡ at l₀ k
   pub after : (k : ℕ) → 4 * n ≤ k → at l k ≡ at l₀ k

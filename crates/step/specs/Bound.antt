@@ -12,7 +12,7 @@ use Rattle.numbers.specs.Sum.{sum-le, sum-scale}
 use Rattle.bounds.specs.Unit.{one}
 use Rattle.rows.specs.Words.{fromOf, toOf, rateOf, outOf, exitOf, pull, flow}
 use Rattle.rows.specs.Lines.{flow-cong}
-use Rattle.step.specs.Value.{held, mixed, next, runOf}
+use Rattle.step.specs.Value.{mixed, next, runOf}
 
 -- a start of until is 0 or 1
 pub bit-most : (b : Bool) → bit b ≤ 1
@@ -45,34 +45,31 @@ module _ (mv : List ℕ) (m n q : ℕ) (targets : (j : ℕ) → j < m → toOf m
         eq-times one (sub-add-cancel slow),
       )
 
-  held-most : (kind x : ℕ) → x ≤ one → held kind x ≤ one
-  held-most kind x h = by (eqb kind 2) (eqb kind 0)
-    where
-      by : (a b : Bool) → cond a one (cond b 0 x) ≤ one
-      by true b = omega arith
-      by false true = omega arith
-      by false false = h
+  held-most : (b : Bool) (x y : ℕ) → x ≤ one → y ≤ one → cond b x y ≤ one
+  held-most true x y h k = h
+  held-most false x y h k = k
 
-  pub next-most : (kind v : ℕ → ℕ) → ((g : ℕ) → g < n → v g ≤ one) → (s : ℕ) → s < n → exitOf mv m s ≤ q → next mv m q kind v s ≤ one
+  pub next-most : (held : ℕ → Bool) (v : ℕ → ℕ) → ((g : ℕ) → g < n → v g ≤ one) → (s : ℕ) → s < n → exitOf mv m s ≤ q
+      → next mv m q held v s ≤ one
   unfolding next
-  next-most kind v k s h slow =
-      held-most (kind s) (mixed mv m q v s / q) (div-le-of-le-mul q (omega (arith, mixed-most v k s h slow)))
+  next-most held v k s h slow =
+      held-most (held s) (v s) (mixed mv m q v s / q) (k s h) (div-le-of-le-mul q (omega (arith, mixed-most v k s h slow)))
 
-  pub run-most : (start kind : ℕ → ℕ) → ((s : ℕ) → s < n → start s ≤ one) → ((s : ℕ) → s < n → exitOf mv m s ≤ q) → (k s : ℕ) → s < n
-      → runOf mv m q start kind k s ≤ one
+  pub run-most : (start : ℕ → ℕ) (held : ℕ → Bool) → ((s : ℕ) → s < n → start s ≤ one) → ((s : ℕ) → s < n → exitOf mv m s ≤ q)
+      → (k s : ℕ) → s < n → runOf mv m q start held k s ≤ one
   unfolding runOf
-  run-most start kind i slow zero s h = i s h
-  run-most start kind i slow (suc k) s h = next-most kind (runOf mv m q start kind k) (run-most start kind i slow k) s h (slow s h)
+  run-most start held i slow zero s h = i s h
+  run-most start held i slow (suc k) s h = next-most held (runOf mv m q start held k) (run-most start held i slow k) s h (slow s h)
 
-  -- values and kinds that agree on the states step alike
-  pub next-cong : (kind kind' v u : ℕ → ℕ) → ((g : ℕ) → g < n → kind g ≡ kind' g) → ((g : ℕ) → g < n → v g ≡ u g) → (s : ℕ) → s < n
-      → next mv m q kind v s ≡ next mv m q kind' u s
+  -- values that agree on the states, with the same ones held, step alike
+  pub next-cong : (held held' : ℕ → Bool) (v u : ℕ → ℕ) → ((g : ℕ) → g < n → held g ≡ held' g) → ((g : ℕ) → g < n → v g ≡ u g)
+      → (s : ℕ) → s < n → next mv m q held v s ≡ next mv m q held' u s
   unfolding next mixed
-  next-cong kind kind' v u f e s h = rw (flow-cong mv v u s n m targets e, e s h, f s h) refl
+  next-cong held held' v u f e s h = rw (flow-cong mv v u s n m targets e, e s h, f s h) refl
 
-  pub run-cong : (start start' kind kind' : ℕ → ℕ) → ((g : ℕ) → g < n → start g ≡ start' g) → ((g : ℕ) → g < n → kind g ≡ kind' g)
-      → (k s : ℕ) → s < n → runOf mv m q start kind k s ≡ runOf mv m q start' kind' k s
+  pub run-cong : (start start' : ℕ → ℕ) (held held' : ℕ → Bool) → ((g : ℕ) → g < n → start g ≡ start' g)
+      → ((g : ℕ) → g < n → held g ≡ held' g) → (k s : ℕ) → s < n → runOf mv m q start held k s ≡ runOf mv m q start' held' k s
   unfolding runOf
-  run-cong start start' kind kind' e f zero s h = e s h
-  run-cong start start' kind kind' e f (suc k) s h =
-      next-cong kind kind' (runOf mv m q start kind k) (runOf mv m q start' kind' k) f (run-cong start start' kind kind' e f k) s h
+  run-cong start start' held held' e f zero s h = e s h
+  run-cong start start' held held' e f (suc k) s h =
+      next-cong held held' (runOf mv m q start held k) (runOf mv m q start' held' k) f (run-cong start start' held held' e f k) s h

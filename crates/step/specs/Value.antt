@@ -1,8 +1,8 @@
--- Step values, rounded down, from packed moves, a start and the kind of each state: held at 1, held at 0, or moving. Assumes nothing.
-use mathlib.Core.Bool.{Bool, true, false, cond}
+-- Step values, rounded down, from packed moves, a start, and which states are held. Assumes nothing.
+use mathlib.Core.Bool.{Bool, true, false, cond, _||_}
 use mathlib.Core.List.{List}
 use Prim.Native.Nat.{ℕ, zero, suc, _+_, _*_, _-_, _/_}
-use lib.Dec.{eqb}
+use lib.Dec.{ltb}
 use Rattle.csl.specs.Phase.{Phase, untilPhase}
 use Rattle.csl.specs.Verdicts.{Verdict, asNo, asYes}
 use Rattle.bounds.specs.Unit.{one}
@@ -28,42 +28,40 @@ lowPhase first second = readPhase false first second
 abbrev pub highPhase : List ℕ → List ℕ → Phase
 highPhase first second = readPhase true first second
 
--- the kind of a state: 2 where its value is held at 1, 0 where it is held at 0, else 1
-abbrev pub kindOf : Bool → Bool → ℕ
-kindOf one nil = cond one 2 (cond nil 0 1)
+-- the states of a phase whose value is held at 1 or at 0
+abbrev pub heldOf : Phase → ℕ → Bool
+heldOf ph s = ph .one s || ph .nil s
 
--- which rule a later step follows, by the kind
-abbrev pub held : ℕ → ℕ → ℕ
-held kind x = cond (eqb kind 2) one (cond (eqb kind 0) 0 x)
+-- what stays put at a state with this exit rate, of q; more than q where the value is held
+abbrev pub stayOf : ℕ → ℕ → Bool → ℕ
+stayOf q exit held = cond held (q + 1) (q - exit)
 
--- the value of state s one step after the values v, of which q times comes together
+-- q times the value of state s one step after the values v, where it moves
 unfoldable pub mixed : List ℕ → ℕ → ℕ → (ℕ → ℕ) → ℕ → ℕ
 mixed mv m q v s = flow mv m v s + (q - exitOf mv m s) * v s
 
-unfoldable pub next : List ℕ → ℕ → ℕ → (kind v : ℕ → ℕ) → ℕ → ℕ
-next mv m q kind v s = held (kind s) (mixed mv m q v s / q)
+-- its value one step on
+unfoldable pub next : List ℕ → ℕ → ℕ → (held : ℕ → Bool) (v : ℕ → ℕ) → ℕ → ℕ
+next mv m q held v s = cond (held s) (v s) (mixed mv m q v s / q)
 
--- the value of state s at step k, from a start and kinds
-unfoldable pub runOf : List ℕ → ℕ → ℕ → (start kind : ℕ → ℕ) → ℕ → ℕ → ℕ
-runOf mv m q start kind zero s = start s
-runOf mv m q start kind (suc k) s = next mv m q kind (runOf mv m q start kind k) s
+-- the value of state s at step k, from a start and the states that are held
+unfoldable pub runOf : List ℕ → ℕ → ℕ → (start : ℕ → ℕ) (held : ℕ → Bool) → ℕ → ℕ → ℕ
+runOf mv m q start held zero s = start s
+runOf mv m q start held (suc k) s = next mv m q held (runOf mv m q start held k) s
 
 -- that of a phase
 abbrev pub startOf : Phase → ℕ → ℕ
 startOf ph s = one * ph .start s
 
-abbrev pub kindsOf : Phase → ℕ → ℕ
-kindsOf ph s = kindOf (ph .one s) (ph .nil s)
-
 abbrev pub valueOf : List ℕ → ℕ → ℕ → Phase → ℕ → ℕ → ℕ
-valueOf mv m q ph = runOf mv m q (startOf ph) (kindsOf ph)
+valueOf mv m q ph = runOf mv m q (startOf ph) (heldOf ph)
 
--- where values and kinds stand in the lent words
+-- where values stand in the lent words, and which states are held
 abbrev pub valuesAt : List ℕ → ℕ → ℕ → ℕ
 valuesAt l n s = at l (2 * n + s)
 
 abbrev pub nextAt : List ℕ → ℕ → ℕ → ℕ
 nextAt l n s = at l (3 * n + s)
 
-abbrev pub kindsAt : List ℕ → ℕ → ℕ → ℕ
-kindsAt l n s = at l (5 * n + s)
+abbrev pub heldAt : List ℕ → ℕ → ℕ → ℕ → Bool
+heldAt l n q s = ltb q (at l (5 * n + s))

@@ -1,15 +1,8 @@
-// One step of the values of all states of a phase: each held at 1 or at 0, or moved and rounded down.
+// One step of the values of all states of a phase: each held, or moved and rounded down.
 ghost use mathlib.Core.Path.{_≡_};
 ghost use lib.ListN.{length};
-ghost use Rattle.step.specs.Value.{valuesAt, kindsAt, next};
+ghost use Rattle.step.specs.Value.{valuesAt, heldAt, next};
 ghost use Rattle.step.specs.Asked.{RowAsked, Summed, StateAsked, StepAsked, Stepped};
-
-// The kinds of states: held at 0, moving, held at 1.
-pub const NIL: u64 = 0;
-
-pub const MOVES: u64 = 1;
-
-pub const CERTAIN: u64 = 2;
 
 // The words of one row, their rates times values added to a sum.
 pub fn row(moves: &[u64], words: &[u64], n: usize, begin: usize, end: usize, own: u64) -> u64
@@ -28,7 +21,7 @@ pub fn row(moves: &[u64], words: &[u64], n: usize, begin: usize, end: usize, own
     sum
 }
 
-// The value of state s one step on, from those of all states: its own, as much as stays put, and its row's.
+// The value of state s one step on: its own where that is held, else from those of all states, its own by what stays put and its row's.
 pub fn state(
     moves: &[u64],
     words: &[u64],
@@ -39,17 +32,14 @@ pub fn state(
     end: usize,
 ) -> u64
     requires { ⌜ StateAsked (now moves) (now words) n q s begin end ⌝ }
-    ensures { λ r. ⌜ r ≡ next (now (moves .entry)) (length (now (moves .entry))) q (kindsAt (now (words .entry)) n) (valuesAt (now (words .entry)) n) s ⌝ }
+    ensures { λ r. ⌜ r ≡ next (now (moves .entry)) (length (now (moves .entry))) q (heldAt (now (words .entry)) n q) (valuesAt (now (words .entry)) n) s ⌝ }
 {
-    let kind = words[5 * n + s];
-    if kind == CERTAIN {
-        return bounds::ONE;
+    let own = words[2 * n + s];
+    let stays = words[5 * n + s];
+    if q < stays {
+        return own;
     }
-    if kind == NIL {
-        return 0;
-    }
-    let stays = q - words[6 * n + s];
-    row(moves, words, n, begin, end, stays * words[2 * n + s]) / q
+    row(moves, words, n, begin, end, stays * own) / q
 }
 
 // The values of all states one step on, from the words after the first 2 * n into the n words after those.

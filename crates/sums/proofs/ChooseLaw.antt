@@ -1,13 +1,15 @@
--- Choices by a verdict byte, and by a kind. Assumes nothing.
+-- Choices by a verdict byte, and by what holds. Assumes nothing.
 use mathlib.Core.Path.{_≡_, refl, sym, _∙_}
 use mathlib.Core.Bool.{Bool, true, false, cond, not, _||_}
-use Prim.Native.Nat.{ℕ}
+use Prim.Native.Nat.{ℕ, _+_, _*_, _-_}
 use native.Mathlib.Omega.{arith}
 use lib.Dec.{eqb}
 use borrow.Author.Tests.{eqb-true, eq-eqb, ne-eqb}
+use Rattle.csl.specs.Phase.{bit}
 use Rattle.csl.specs.Verdicts.{No, Yes, Undecided}
+use Rattle.bounds.specs.Unit.{one}
 use Rattle.bounds.specs.Values.{verdictAt}
-use Rattle.step.specs.Value.{readAs, kindOf}
+use Rattle.step.specs.Value.{readAs, stayOf}
 
 pub is-asked : (b a x y : ℕ) → b ≡ a → x ≡ cond (eqb b a) x y
 is-asked b a x y h = rw (eq-eqb b a h) refl
@@ -39,14 +41,25 @@ holds-yes g b r h e = rw h (e ∙ read-yes g)
 pub holds-no : (g : ℕ) (b r : Bool) → b ≡ false → r ≡ eqb g 1 → r ≡ readAs b (verdictAt g)
 holds-no g b r h e = rw h (e ∙ read-no g)
 
--- a kind, by what holds
-pub kind-certain : (x y a : Bool) → a ≡ y → a ≡ true → 2 ≡ kindOf y (not (x || y))
-kind-certain x y a e h = rw (sym e, h) refl
+-- whether a value is held, by what holds
+pub held-second : (x y : Bool) → y ≡ true → true ≡ (y || not (x || y))
+held-second x y h = rw h refl
 
-pub kind-moves : (x y a b : Bool) → a ≡ y → a ≡ false → b ≡ x → b ≡ true → 1 ≡ kindOf y (not (x || y))
-kind-moves x y a b e h f k = rw (sym e, h, sym f, k) refl
+pub held-neither : (x y : Bool) → y ≡ false → not x ≡ (y || not (x || y))
+held-neither true y h = rw h refl
+held-neither false y h = rw h refl
 
-pub kind-nil : (x y a b : Bool) → a ≡ y → a ≡ false → b ≡ x → b ≡ false → 0 ≡ kindOf y (not (x || y))
-kind-nil x y a b e h f k = rw (sym e, h, sym f, k) refl
+-- the first value, and what stays put, by a test
+pub value-one : (b : Bool) → b ≡ true → one ≡ one * bit b
+value-one b h = rw h refl
 
-pub ruleset choose-laws = (is-asked, is-other, holds-yes, holds-no, kind-certain, kind-moves, kind-nil)
+pub value-nil : (b : Bool) → b ≡ false → 0 ≡ one * bit b
+value-nil b h = rw h refl
+
+pub stays-held : (b : Bool) (q e : ℕ) → b ≡ true → q + 1 ≡ stayOf q e b
+stays-held b q e h = rw h refl
+
+pub stays-moving : (b : Bool) (q e : ℕ) → b ≡ false → q - e ≡ stayOf q e b
+stays-moving b q e h = rw h refl
+
+pub ruleset choose-laws = (is-asked, is-other, holds-yes, holds-no, held-second, held-neither, value-one, value-nil, stays-held, stays-moving)

@@ -1,16 +1,17 @@
 -- Steps and sums in turn. Assumes nothing.
-use mathlib.Core.Path.{_≡_, refl, sym, _∙_}
+use mathlib.Core.Path.{_≡_, refl, ap, sym, _∙_}
 use mathlib.Core.List.{List}
 use Prim.Native.Nat.{ℕ, suc, _+_, _*_, _^_, _≤_, _<_}
 use native.Mathlib.Omega.{arith}
 use native.Mathlib.Numerals.{add-one}
+use lib.Dec.{ltb}
 use lib.ListN.{length}
 use mir.Val.{Fits}
 use mir.Syntax.{w64}
 use Rattle.numbers.specs.Sum.{sum-zero, sum-next, sum-most}
 use Rattle.bounds.specs.Unit.{one, part, mostPart, part-most}
 use Rattle.rows.specs.Words.{at}
-use Rattle.step.specs.Value.{runOf, valuesAt, nextAt, kindsAt}
+use Rattle.step.specs.Value.{runOf, valuesAt, nextAt, heldAt}
 use Rattle.step.specs.Bound.{run-most, next-cong}
 use Rattle.step.specs.Asked.{Sheet, StepAsked, Stepped}
 use Rattle.sums.specs.Asked.{sumsAt, AdvanceAsked, Advanced, RunAsked, runAt, sumOf, Ran}
@@ -58,7 +59,7 @@ module _ {mv l₀ l : List ℕ} {n q depth k : ℕ} (v : Inv mv l₀ l n q depth
 
   -- the values are at most one
   most : (i s : ℕ) → s < n → runAt mv l₀ n q i s ≤ one
-  most = run-most mv (length mv) n q (sheet .lines .targets) (nextAt l₀ n) (kindsAt l₀ n) (v .asked .values) (sheet .slow)
+  most = run-most mv (length mv) n q (sheet .lines .targets) (nextAt l₀ n) (heldAt l₀ n q) (v .asked .values) (sheet .slow)
 
   -- a sum with this step's part fits
   sum-fits : (s : ℕ) → s < n → sumOf mv l₀ n q s k + part (at l₀ (8 * n + k)) (runAt mv l₀ n q k s) < 2 ^ 64
@@ -89,6 +90,9 @@ module _ {mv l₀ l : List ℕ} {n q depth k : ℕ} (v : Inv mv l₀ l n q depth
 
     kept : (i : ℕ) → 5 * n ≤ i → at l' i ≡ at l₀ i
     kept i b = a .after i b ∙ v .after i b
+
+    stays-kept : (s : ℕ) → at l' (5 * n + s) ≡ at l₀ (5 * n + s)
+    stays-kept s = kept (5 * n + s) (omega arith)
 
     added : (s : ℕ) → s < n → sumsAt l' n s ≡ sumOf mv l₀ n q s (k + 1)
     added s b =
@@ -121,6 +125,7 @@ module _ {mv l₀ l : List ℕ} {n q depth k : ℕ} (v : Inv mv l₀ l n q depth
             small = sheet .small;
           };
           values = λ s b. rw (now-is s b) (most k s b);
+          stays = λ s b e. stays-kept s ∙ v .asked .stays s b (rw (stays-kept s) at e);
         }
 
     module _ (h : k ≡ depth → ⊥) {l'' : List ℕ} (u : Stepped mv n q l' l'') where
@@ -128,8 +133,8 @@ module _ {mv l₀ l : List ℕ} {n q depth k : ℕ} (v : Inv mv l₀ l n q depth
       unfolding runOf
       value-next s b =
           u .values s b
-          ∙ next-cong mv (length mv) n q (sheet .lines .targets) (kindsAt l' n) (kindsAt l₀ n) (valuesAt l' n) (runAt mv l₀ n q k)
-          (λ g c. kept (5 * n + g) (omega arith)) now-is s b
+          ∙ next-cong mv (length mv) n q (sheet .lines .targets) (heldAt l' n q) (heldAt l₀ n q) (valuesAt l' n) (runAt mv l₀ n q k)
+          (λ g c. ap (ltb q) (stays-kept g)) now-is s b
 
       pub turn : Inv mv l₀ l'' n q depth (k + 1)
       turn =

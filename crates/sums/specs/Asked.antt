@@ -1,33 +1,39 @@
 -- What the functions of the sums ask and promise. Assumes nothing.
 use mathlib.Core.Path.{_≡_}
-use mathlib.Core.Bool.{Bool}
+use mathlib.Core.Bool.{Bool, false}
 use mathlib.Core.List.{List}
-use Prim.Native.Nat.{ℕ, _+_, _*_, _^_, _≤_, _<_}
+use Prim.Native.Nat.{ℕ, _+_, _*_, _-_, _^_, _≤_, _<_}
 use lib.ListN.{length}
 use Rattle.csl.specs.Chain.{sumTo}
 use Rattle.bounds.specs.Weight.{peak}
 use Rattle.bounds.specs.Unit.{one, part}
-use Rattle.rows.specs.Words.{at}
-use Rattle.step.specs.Value.{readPhase, startOf, kindsOf, runOf, valuesAt, nextAt, kindsAt}
+use Rattle.rows.specs.Words.{at, exitOf}
+use Rattle.step.specs.Value.{readPhase, startOf, heldOf, stayOf, runOf, valuesAt, nextAt, heldAt}
 use Rattle.step.specs.Asked.{Sheet}
 
 -- where the sums stand
 abbrev pub sumsAt : List ℕ → ℕ → ℕ → ℕ
 sumsAt l n s = at l (4 * n + s)
 
--- the values of step 0, empty sums and kinds, to be written
-pub record BeginAsked (l first second : List ℕ) (n : ℕ) : Type 0 where
+-- an exit rate and q
+pub record StaysAsked (q exit : ℕ) : Type 0 where
+  pub slow : exit ≤ q
+  pub small : q ≤ 64000000
+
+-- the values of step 0, empty sums and what stays put, to be written
+pub record BeginAsked (l first second : List ℕ) (n q : ℕ) : Type 0 where
   pub states : n ≤ 512
-  pub room : 6 * n ≤ length l
+  pub room : 7 * n ≤ length l
   pub in-first : n ≤ length first
   pub in-second : n ≤ length second
+  pub exits : (s : ℕ) → s < n → StaysAsked q (at l (6 * n + s))
 
 -- only the words 3 * n to 6 * n are changed
-pub record Begun (first second : List ℕ) (n : ℕ) (b : Bool) (l₀ l : List ℕ) : Type 0 where
+pub record Begun (first second : List ℕ) (n q : ℕ) (b : Bool) (l₀ l : List ℕ) : Type 0 where
   pub same : length l ≡ length l₀
   pub values : (s : ℕ) → s < n → nextAt l n s ≡ startOf (readPhase b first second) s
   pub sums : (s : ℕ) → s < n → sumsAt l n s ≡ 0
-  pub kinds : (s : ℕ) → s < n → kindsAt l n s ≡ kindsOf (readPhase b first second) s
+  pub stays : (s : ℕ) → s < n → at l (5 * n + s) ≡ stayOf q (at l₀ (6 * n + s)) (heldOf (readPhase b first second) s)
   pub before : (k : ℕ) → k < 3 * n → at l k ≡ at l₀ k
   pub after : (k : ℕ) → 6 * n ≤ k → at l k ≡ at l₀ k
 
@@ -48,18 +54,19 @@ pub record Advanced (n w : ℕ) (l₀ l : List ℕ) : Type 0 where
   pub before : (k : ℕ) → k < 2 * n → at l k ≡ at l₀ k
   pub after : (k : ℕ) → 5 * n ≤ k → at l k ≡ at l₀ k
 
--- what is asked of the start of a run: values of step 0, empty sums, weights
+-- what is asked of the start of a run: values of step 0, empty sums, what stays put, weights
 pub record RunAsked (mv l : List ℕ) (n q depth : ℕ) : Type 0 where
   pub sheet : Sheet mv l n q
   pub values : (s : ℕ) → s < n → nextAt l n s ≤ one
   pub sums : (s : ℕ) → s < n → sumsAt l n s ≡ 0
+  pub stays : (s : ℕ) → s < n → heldAt l n q s ≡ false → at l (5 * n + s) ≡ q - exitOf mv (length mv) s
   pub room : 8 * n + depth < length l
   pub limit : depth < 1024
   pub weights : (k : ℕ) → k ≤ depth → at l (8 * n + k) ≤ peak
 
 -- the value of state s at step k of a run from the words of a list; the sum over the first k steps of weight times value
 abbrev pub runAt : (mv l : List ℕ) (n q : ℕ) → ℕ → ℕ → ℕ
-runAt mv l n q k s = runOf mv (length mv) q (nextAt l n) (kindsAt l n) k s
+runAt mv l n q k s = runOf mv (length mv) q (nextAt l n) (heldAt l n q) k s
 
 abbrev pub sumOf : (mv l : List ℕ) (n q : ℕ) → ℕ → ℕ → ℕ
 sumOf mv l n q s k = sumTo (λ i. part (at l (8 * n + i)) (runAt mv l n q i s)) k

@@ -1,14 +1,16 @@
 // The sums over the steps of a phase of weight times value, on lent words.
 //
-// Of the words, with n states, the first 2 * n are left alone; from 2 * n on stand the values, then the values one step on, the sums, the
-// kinds, the exit rates, the row ends, and from 8 * n on the weights.
+// Of the words, with n states, the first 2 * n are left alone; from 2 * n on stand the values, then the values one step on, the sums, what
+// stays put, the exit rates, the row ends, and from 8 * n on the weights.
 ghost use mathlib.Core.Path.{_≡_};
 ghost use mathlib.Core.Bool.{cond, not, _||_};
 ghost use lib.Dec.{eqb};
+ghost use Prim.Native.Nat.{_*_};
+ghost use Rattle.csl.specs.Phase.{bit};
 ghost use Rattle.bounds.specs.Unit.{one};
 ghost use Rattle.bounds.specs.Values as values;
-ghost use Rattle.step.specs.Value.{readAs, kindOf};
-ghost use Rattle.sums.specs.Asked.{BeginAsked, Begun, AdvanceAsked, Advanced, RunAsked, Ran};
+ghost use Rattle.step.specs.Value.{readAs, stayOf};
+ghost use Rattle.sums.specs.Asked.{StaysAsked, BeginAsked, Begun, AdvanceAsked, Advanced, RunAsked, Ran};
 
 // x where a verdict byte is the one asked for, else y.
 pub fn choose(byte: u8, asked: u8, x: u64, y: u64) -> u64
@@ -24,41 +26,40 @@ pub fn holds(byte: u8, as_yes: bool) -> bool
     if as_yes { byte != 0 } else { byte == 1 }
 }
 
-// The kind of a state in an until, by its operands' verdict bytes.
-pub fn kind(f: u8, g: u8, as_yes: bool) -> u64
-    ensures { λ r. ⌜ r ≡ kindOf (readAs as_yes (values.verdictAt g)) (not (readAs as_yes (values.verdictAt f) || readAs as_yes (values.verdictAt g))) ⌝ }
+// Whether an until holds a state's value, by whether its operands hold there: at 1 where the second does, at 0 where neither does.
+pub fn is_held(first: bool, second: bool) -> bool
+    ensures { λ r. ⌜ r ≡ (second || not (first || second)) ⌝ }
 {
-    if holds(g, as_yes) {
-        step::CERTAIN
-    } else if holds(f, as_yes) {
-        step::MOVES
-    } else {
-        step::NIL
-    }
+    second || !first
 }
 
-// The value of step 0 of a state of an until, by its kind.
-pub fn first_value(kind: u64) -> u64
-    ensures { λ r. ⌜ r ≡ cond (eqb kind 2) one 0 ⌝ }
+// The value of step 0 of an until, by whether the second operand holds.
+pub fn first_value(second: bool) -> u64
+    ensures { λ r. ⌜ r ≡ one * bit second ⌝ }
 {
-    if kind == step::CERTAIN {
-        bounds::ONE
-    } else {
-        0
-    }
+    if second { bounds::ONE } else { 0 }
 }
 
-// The values of step 0 of an until, empty sums, and the kinds of the states.
-pub fn begin(words: &mut [u64], first: &[u8], second: &[u8], n: usize, as_yes: bool)
-    requires { ⌜ BeginAsked (now words) (now first) (now second) n ⌝ }
-    ensures { λ _. ⌜ Begun (now (first .entry)) (now (second .entry)) n as_yes (now (words .entry)) (now (words .exit)) ⌝ }
+// What stays put at a state with this exit rate, of q; more than q where its value is held.
+pub fn stays(held: bool, q: u64, exit: u64) -> u64
+    requires { ⌜ StaysAsked q exit ⌝ }
+    ensures { λ r. ⌜ r ≡ stayOf q exit held ⌝ }
+{
+    if held { q + 1 } else { q - exit }
+}
+
+// The values of step 0 of an until, empty sums, and what stays put.
+pub fn begin(words: &mut [u64], first: &[u8], second: &[u8], n: usize, q: u64, as_yes: bool)
+    requires { ⌜ BeginAsked (now words) (now first) (now second) n q ⌝ }
+    ensures { λ _. ⌜ Begun (now (first .entry)) (now (second .entry)) n q as_yes (now (words .entry)) (now (words .exit)) ⌝ }
 {
     let mut s: usize = 0;
     while s < n {
-        let k = kind(first[s], second[s], as_yes);
-        words[3 * n + s] = first_value(k);
+        let one = holds(first[s], as_yes);
+        let other = holds(second[s], as_yes);
+        words[3 * n + s] = first_value(other);
         words[4 * n + s] = 0;
-        words[5 * n + s] = k;
+        words[5 * n + s] = stays(is_held(one, other), q, words[6 * n + s]);
         s += 1;
     }
 }

@@ -14,7 +14,7 @@ use Rattle.bounds.specs.Unit.{one, grain, part}
 use Rattle.bounds.specs.Ends.{total, gathered, lowerEnd, gathered-most, total-most, total-peak}
 use Rattle.bounds.specs.Upper.{gatherable, leftEnd, gatherable-most}
 use Rattle.rows.specs.Words.{at}
-use Rattle.step.specs.Value.{verdicts, readAs, readPhase, lowPhase, highPhase, startOf, kindsOf, valueOf}
+use Rattle.step.specs.Value.{verdicts, readAs, readPhase, lowPhase, highPhase, startOf, heldOf, valueOf}
 use Rattle.step.specs.Bound.{bit-most, run-most}
 use Rattle.step.specs.Asked.{Sheet}
 use Rattle.sums.specs.Asked.{sumsAt}
@@ -112,7 +112,7 @@ module _ {mv l first second : List ℕ} {n q a depth : ℕ} (p : SummedAsked mv 
       ≤ total a 1000000 (a / 1000000) depth * one
   gathered-small b s h =
       gathered-most a 1000000 (a / 1000000) depth (λ k. valueOf mv (length mv) q (readPhase b first second) k s)
-      (λ k c. run-most mv (length mv) n q (p .sheet .lines .targets) (startOf (readPhase b first second)) (kindsOf (readPhase b first second))
+      (λ k c. run-most mv (length mv) n q (p .sheet .lines .targets) (startOf (readPhase b first second)) (heldOf (readPhase b first second))
       (λ t e. omega (arith, bit-most (readAs b (verdicts second t)))) (p .sheet .slow) k s h)
 
   module _ {w : List ℕ} {r : ℕ} (u : Weighed n a depth l w r) where

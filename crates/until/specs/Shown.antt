@@ -1,5 +1,6 @@
 -- What `until` promises, of the chain that the words show: the two ends that its rounded step values give. Assumes nothing.
 use mathlib.Core.Path.{_≡_, refl, ap, sym, _∙_}
+use mathlib.Core.Bool.{true, false}
 use mathlib.Core.List.{List}
 use Prim.Native.Nat.{ℕ, _+_, _*_, _≤_, _<_}
 use native.Mathlib.Omega.{arith}
@@ -12,7 +13,7 @@ use Rattle.bounds.specs.UntilEnds.{until-ends}
 use Rattle.rows.specs.Words.{at, topOf}
 use Rattle.rows.specs.Shown.{Shows, top-shown}
 use Rattle.step.specs.Value.{verdicts, lowPhase, highPhase, valueOf}
-use Rattle.step.specs.Rounded.{rounds}
+use Rattle.step.specs.Rounded.{reading-rounds}
 use Rattle.until.specs.Asked.{Until}
 
 module _ {c : Chain} {mv first second l₀ l : List ℕ} {n q t d : ℕ} (p : Shows c mv (length mv) n) (e : q ≡ topOf mv (length mv) n)
@@ -21,10 +22,10 @@ module _ {c : Chain} {mv first second l₀ l : List ℕ} {n q t d : ℕ} (p : Sh
   q-shown = e ∙ sym (top-shown p)
 
   pub low-rounds : Rounds c (lowPhase first second) (valueOf mv (length mv) q (lowPhase first second))
-  low-rounds = rw e (rounds (lowPhase first second) p)
+  low-rounds = rw e (reading-rounds false first second p)
 
   pub high-rounds : Rounds c (highPhase first second) (valueOf mv (length mv) q (highPhase first second))
-  high-rounds = rw e (rounds (highPhase first second) p)
+  high-rounds = rw e (reading-rounds true first second p)
 
   pub depth-shown : d ≡ depth c t
   unfolding depth load

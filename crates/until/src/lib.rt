@@ -104,7 +104,7 @@ pub fn reading(
     requires { ⌜ ReadAsked (now moves) (now words) (now first) (now second) n q last ⌝ }
     ensures { λ _. ⌜ Read (now (moves .entry)) (now (first .entry)) (now (second .entry)) n q last as_yes (now (words .entry)) (now (words .exit)) ⌝ }
 {
-    sums::begin(words, first, second, n, as_yes);
+    sums::begin(words, first, second, n, q, as_yes);
     sums::run(moves, words, n, q, last);
 }
 

@@ -1,27 +1,31 @@
 -- `begin` meets its contract. Assumes nothing.
 use Prim.Native.Nat.{_-_, _+_}
 use borrow.Author.Needs.{needs}
-use Rattle.sums.proofs.BeginLaw.{Inv, begin-laws}
+use native.Mathlib.Omega.{arith}
+use Rattle.sums.proofs.BeginLaw.{Inv, begin-laws, turn}
 use Rattle.sums.proofs.begin.Statement.{statement}
 use Rattle.sums.proofs.begin.Tie as tie
 
 abbrev Inv-loop : tie.InvT-loop
-Inv-loop words₀ first second n as-yes s₀ words s = Inv words₀ words first second n as-yes s
+Inv-loop words₀ first second n q as-yes s₀ words s = Inv words₀ words first second n q as-yes s
 
 abbrev μ-loop : tie.MeasureT-loop
-μ-loop words₀ first second n as-yes s₀ words s = n - s
+μ-loop words₀ first second n q as-yes s₀ words s = n - s
 
 loop-holds : tie.Need-loop-holds Inv-loop μ-loop
 loop-holds c = search (needs, begin-laws)
 
-shared-slice-read-kind : tie.Need-shared-slice-read-kind Inv-loop μ-loop
-shared-slice-read-kind c = search (needs, begin-laws)
+shared-slice-read-holds : tie.Need-shared-slice-read-holds Inv-loop μ-loop
+shared-slice-read-holds c = search (needs, begin-laws)
 
-shared-slice-read-kind-2 : tie.Need-shared-slice-read-kind-2 Inv-loop μ-loop
-shared-slice-read-kind-2 c = search (needs, begin-laws)
+holds-requires : tie.Need-holds-requires Inv-loop μ-loop
+holds-requires c κs = search (needs, begin-laws)
 
-kind-requires : tie.Need-kind-requires Inv-loop μ-loop
-kind-requires c κs = search (needs, begin-laws)
+shared-slice-read-holds-2 : tie.Need-shared-slice-read-holds-2 Inv-loop μ-loop
+shared-slice-read-holds-2 c = search (needs, begin-laws)
+
+holds-requires-2 : tie.Need-holds-requires-2 Inv-loop μ-loop
+holds-requires-2 c κs = search (needs, begin-laws)
 
 first-value-requires : tie.Need-first-value-requires Inv-loop μ-loop
 first-value-requires c κs = search (needs, begin-laws)
@@ -50,6 +54,24 @@ mul-words-4 c = search (needs, begin-laws)
 slice-write-words-2 : tie.Need-slice-write-words-2 Inv-loop μ-loop
 slice-write-words-2 c = search (needs, begin-laws)
 
+is-held-requires : tie.Need-is-held-requires Inv-loop μ-loop
+is-held-requires c κs = search (needs, begin-laws)
+
+mul-stays : tie.Need-mul-stays Inv-loop μ-loop
+mul-stays c = search (needs, begin-laws)
+
+add-stays : tie.Need-add-stays Inv-loop μ-loop
+add-stays c = search (needs, begin-laws)
+
+mul-stays-2 : tie.Need-mul-stays-2 Inv-loop μ-loop
+mul-stays-2 c = search (needs, begin-laws)
+
+slice-read-stays : tie.Need-slice-read-stays Inv-loop μ-loop
+slice-read-stays c = search (needs, begin-laws)
+
+stays-requires : tie.Need-stays-requires Inv-loop μ-loop
+stays-requires c κs = search (needs, begin-laws)
+
 mul-words-5 : tie.Need-mul-words-5 Inv-loop μ-loop
 mul-words-5 c = search (needs, begin-laws)
 
@@ -69,7 +91,13 @@ loop-less : tie.Need-loop-less Inv-loop μ-loop
 loop-less c = search (needs, begin-laws)
 
 loop-again : tie.Need-loop-again Inv-loop μ-loop
-loop-again c = search (needs, begin-laws)
+loop-again c =
+    let held = c .before .before in
+    let value = held .before in
+    let second = value .before in
+    let first = second .before .before in
+    turn (first .before .before .before .loop .inv) (omega arith) _ _ _ _ _ (value .first-value .ensures) (second .holds2 .ensures)
+    (first .holds .ensures) (held .is-held .ensures) (c .stays .ensures)
 
 same-length : tie.Need-same-length Inv-loop μ-loop
 same-length c = search (needs, begin-laws)
@@ -84,9 +112,10 @@ begin-spec =
     Inv-loop
     μ-loop
     loop-holds
-    shared-slice-read-kind
-    shared-slice-read-kind-2
-    kind-requires
+    shared-slice-read-holds
+    holds-requires
+    shared-slice-read-holds-2
+    holds-requires-2
     first-value-requires
     mul-words
     add-words
@@ -96,6 +125,12 @@ begin-spec =
     add-words-2
     mul-words-4
     slice-write-words-2
+    is-held-requires
+    mul-stays
+    add-stays
+    mul-stays-2
+    slice-read-stays
+    stays-requires
     mul-words-5
     add-words-3
     mul-words-6

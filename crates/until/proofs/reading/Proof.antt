@@ -6,7 +6,7 @@ use Rattle.until.proofs.reading.Statement.{statement}
 use Rattle.until.proofs.reading.Tie as tie
 
 begin-requires : tie.Need-begin-requires
-begin-requires c κs = search needs
+begin-requires c κs = search (needs, read-laws)
 
 run-requires : tie.Need-run-requires
 run-requires c κs = search (needs, read-laws)
