@@ -3,22 +3,22 @@ use mathlib.Core.Path.{_≡_, refl, sym, ap, _∙_}
 use Prim.Native.Nat.{ℕ, zero, suc, _+_, _*_, _-_, _^_, _≤_, _<_}
 use native.Mathlib.Omega.{arith}
 use native.Mathlib.Nat.{pow-suc, pow-le-pow-right, mul-le-mul-right}
-use native.Mathlib.Numerals.{add-one}
 use mathlib.Core.Bool.{Bool, true, false, cond, not, _&&_, and-false, and-true, and-eq-true-iff, false≢true}
 use mathlib.Core.List.{List, [], _∷_, _++_, headD, tail, append-nil}
-use lib.ListN.{length, take, drop, getD}
+use lib.ListN.{length, drop, getD}
 use lib.Seq.{drop-drop}
-use lib.Dec.{eqb, leb, ltb, eqb·suc-suc, leb·suc-suc}
-use borrow.Author.Tests.{le-leb, lt-leb, eq-eqb, ne-eqb, leb-true, leb-false, eqb-true, eqb-false}
+use lib.Dec.{eqb, leb, eqb·suc-suc, leb·suc-suc}
+use borrow.Author.Tests.{le-leb, lt-leb, ne-eqb, leb-true, leb-false, eqb-true, eqb-false}
 use Rattle.csl.specs.Text.{Text, every}
 use Rattle.csl.specs.Limits.{sheetDigits}
 use Rattle.csl.specs.Number.{isDigit, isNumber, zeroLed, valueFrom, valueOf}
 use Rattle.csl.specs.Line.{lineFeed, comma, ahead, fieldsOf}
 use Rattle.texts.specs.Digits.{digitRun, numberAt}
+use Rattle.texts.specs.Counting.{digit-range}
 use Rattle.texts.specs.Span.{spanOf}
 use Rattle.texts.specs.declared.Num.{Num}
 use Rattle.texts.specs.declared.Num.the-variants.{Value, Bad}
-use Rattle.fields.specs.LineAt.{lineAt, isEndedAt, fieldsAt, line-feed, line-byte, line-nil, ended-feed, ended-byte, ended-nil, span-byte, span-feed, fields-nil, fields-comma, fields-byte, fields-some}
+use Rattle.fields.specs.LineAt.{lineAt, isEndedAt, fieldsAt, line-feed, line-byte, ended-feed, ended-byte, ended-nil, span-byte, span-feed, fields-nil, fields-comma, fields-byte, fields-some}
 use Rattle.fields.specs.Bools.{and-middle, and-swap}
 use Rattle.fields.specs.Field.{fieldAt, endedBy}
 
@@ -35,11 +35,6 @@ prepend d (p ∷ ps) = (d ++ p) ∷ ps
 abbrev pub behind : Text → Text
 behind t = drop (length (digitRun t)) t
 
-digit-bytes : (b : ℕ) → isDigit b ≡ true → (48 ≤ b) × (b ≤ 57)
-digit-bytes b h =
-    let p = and-eq-true-iff (leb 48 b) (leb b 57) .0 h in
-    (leb-true 48 b (p .0), leb-true b 57 (p .1))
-
 prepend-nothing : (l : Text) → fieldsOf l ≡ prepend [] (fieldsOf l)
 prepend-nothing l = rw (fields-some l)
 
@@ -55,7 +50,7 @@ run-fields (b ∷ t) = go (isDigit b) refl (run-fields t)
     go : (p : Bool) → isDigit b ≡ p → fieldsAt t ≡ prepend (digitRun t) (fieldsAt (behind t))
         → fieldsAt (b ∷ t) ≡ prepend (cond p (b ∷ digitRun t) []) (fieldsAt (drop (length (cond p (b ∷ digitRun t) [])) (b ∷ t)))
     go true e ih =
-        let r = digit-bytes b e in
+        let r = digit-range b e in
         rw (line-byte t b (omega arith), fields-byte b (lineAt t) (omega arith), ih) (onto (fieldsAt (behind t)))
     go false e ih = prepend-nothing (lineAt (b ∷ t))
 
@@ -65,7 +60,7 @@ run-ended [] = refl
 run-ended (b ∷ t) = go (isDigit b) refl (run-ended t)
   where
     go : (p : Bool) → isDigit b ≡ p → isEndedAt t ≡ isEndedAt (behind t) → isEndedAt (b ∷ t) ≡ isEndedAt (drop (length (cond p (b ∷ digitRun t) [])) (b ∷ t))
-    go true e ih = let r = digit-bytes b e in ended-byte t b (omega arith) ∙ ih
+    go true e ih = let r = digit-range b e in ended-byte t b (omega arith) ∙ ih
     go false e ih = refl
 
 run-span : (t : Text) → spanOf lineFeed t ≡ length (digitRun t) + spanOf lineFeed (behind t)
@@ -75,7 +70,7 @@ run-span (b ∷ t) = go (isDigit b) refl (run-span t)
   where
     go : (p : Bool) → isDigit b ≡ p → spanOf lineFeed t ≡ length (digitRun t) + spanOf lineFeed (behind t)
         → spanOf lineFeed (b ∷ t) ≡ length (cond p (b ∷ digitRun t) []) + spanOf lineFeed (drop (length (cond p (b ∷ digitRun t) [])) (b ∷ t))
-    go true e ih = let r = digit-bytes b e in rw (span-byte t b (omega arith)) (omega arith)
+    go true e ih = let r = digit-range b e in rw (span-byte t b (omega arith)) (omega arith)
     go false e ih = omega arith
 
 -- no digit stands there
@@ -272,7 +267,7 @@ unfolding every valueFrom
 value-below v [] h = omega arith
 value-below v (b ∷ d) h =
     let p = and-eq-true-iff (isDigit b) (every isDigit d) .0 h in
-    let r = digit-bytes b (p .0) in
+    let r = digit-range b (p .0) in
     let q : v * 10 + (b - 48) + 1 ≤ (v + 1) * 10 = omega arith in
     rw (pow-suc 10 (length d)) (omega (arith, value-below (v * 10 + (b - 48)) d (p .1), mul-le-mul-right (10 ^ length d) q))
 

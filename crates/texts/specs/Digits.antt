@@ -1,10 +1,9 @@
 -- The number at the start of a text. Assumes nothing.
-use mathlib.Core.Path.{_≡_}
 use Prim.Native.Nat.{ℕ, _≤_, _<_}
-use mathlib.Core.Bool.{Bool, true, false, cond}
-use mathlib.Core.List.{List, [], _∷_}
-use lib.ListN.{length}
-use lib.Dec.{eqb}
+use mathlib.Core.Bool.{cond, not, _&&_}
+use mathlib.Core.List.{[], _∷_}
+use lib.ListN.{length, getD}
+use lib.Dec.{leb, ltb, eqb}
 use Rattle.csl.specs.Text.{Text}
 use Rattle.csl.specs.Number.{isDigit, isNumber, valueOf}
 use Rattle.texts.specs.declared.Num.{Num}
@@ -19,9 +18,9 @@ digitRun (b ∷ t) = cond (isDigit b) (b ∷ digitRun t) []
 unfoldable pub numberAt : ℕ → Text → Num
 numberAt most t = cond (isNumber most (digitRun t)) (Value (valueOf (digitRun t)) (length (digitRun t))) Bad
 
--- a value of n digits: no digit is no number
-abbrev pub settled : ℕ → ℕ → Num
-settled v n = cond (eqb n 0) Bad (Value v n)
+-- the number of value v that the n digits at the start of s spell, where it is one
+abbrev pub settled : Text → ℕ → ℕ → Num
+settled s v n = cond (leb 1 n && not (ltb 1 n && eqb (getD s 0 0) 48)) (Value v n) Bad
 
 -- how many bytes a reading took
 abbrev pub usedBy : Num → ℕ

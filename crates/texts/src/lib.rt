@@ -1,9 +1,7 @@
 // What stands at the start of a text: digits, the bytes before a mark; and whether two texts are the same.
 ghost use mathlib.Core.Path.{_≡_};
-ghost use Prim.Native.Nat.{_≤_};
-ghost use mathlib.Core.Bool.{_&&_};
-ghost use lib.ListN.{length};
-ghost use lib.Dec.{eqb};
+ghost use Prim.Native.Nat.{_≤_, min};
+ghost use lib.ListN.{length, getD};
 ghost use Rattle.csl.specs.Text as csl;
 ghost use Rattle.csl.specs.Number.{isDigit};
 ghost use Rattle.texts.specs.Digits.{numberAt, settled, NumberFits};
@@ -29,22 +27,35 @@ pub fn is_digit(b: u8) -> bool
     48 <= b && b <= 57
 }
 
-// No digit may follow a 0 that leads.
-fn lone_zero(value: u64, used: usize) -> bool
-    ensures { λ r. ⌜ r ≡ (eqb used 1 && eqb value 0) ⌝ }
+// The lesser of two lengths.
+fn lesser(a: usize, b: usize) -> usize
+    ensures { λ r. ⌜ r ≡ min a b ⌝ }
 {
-    used == 1 && value == 0
+    if a < b { a } else { b }
 }
 
-// No digit is no number.
-fn settle(value: u64, used: usize) -> Num
-    ensures { λ r. ⌜ r ≡ settled value used ⌝ }
+// Whether a digit stands at place i of s.
+fn digit_at(s: &[u8], i: usize) -> bool
+    ensures { λ r. ⌜ r ≡ isDigit (getD (now (s .entry)) i 0) ⌝ }
+{
+    if s.len() <= i {
+        return false;
+    }
+    is_digit(s[i])
+}
+
+// The number that the `used` digits at the start of s spell: none without a digit, or where a 0 leads another digit.
+fn settle(s: &[u8], value: u64, used: usize) -> Num
+    requires { ⌜ used ≤ length (now s) ⌝ }
+    ensures { λ r. ⌜ r ≡ settled (now (s .entry)) value used ⌝ }
 {
     if used == 0 {
-        Num::Bad
-    } else {
-        Num::Value(value, used)
+        return Num::Bad;
     }
+    if 1 < used && s[0] == 48 {
+        return Num::Bad;
+    }
+    Num::Value(value, used)
 }
 
 // The number that the digits at the start of s spell, of at most `most` digits.
@@ -53,25 +64,21 @@ pub fn number(s: &[u8], most: usize) -> Num
     ensures { λ r. ⌜ r ≡ numberAt most (now (s .entry)) ⌝ }
     ensures within { λ r. ⌜ NumberFits (length (now (s .entry))) r ⌝ }
 {
-    let mut t = s;
+    let end = lesser(s.len(), most);
     let mut value: u64 = 0;
     let mut used: usize = 0;
-    while 0 < t.len() {
-        let b = t[0];
+    while used < end {
+        let b = s[used];
         if !is_digit(b) {
-            return settle(value, used);
-        }
-        if most <= used {
-            return Num::Bad;
-        }
-        if lone_zero(value, used) {
-            return Num::Bad;
+            return settle(s, value, used);
         }
         value = value * 10 + wide(b - 48);
         used += 1;
-        t = &t[1..];
     }
-    settle(value, used)
+    if digit_at(s, used) {
+        return Num::Bad;
+    }
+    settle(s, value, used)
 }
 
 // How many bytes stand before the first `mark`: all of them where there is none.

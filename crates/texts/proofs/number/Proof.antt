@@ -1,23 +1,25 @@
 -- `number` meets its contract. Assumes nothing.
 use borrow.Author.Needs.{needs}
-use borrow.Author.Tests.{not-true, not-false}
+use borrow.Author.Tests.{not-true}
 use native.Mathlib.Omega.{arith}
-use Prim.Native.Nat.{_+_, _≤_, _<_, _^_}
-use mathlib.Core.Path.{_≡_, sym, _∙_}
-use lib.ListN.{length, getD}
-use Rattle.texts.specs.Cut.{rest-is}
-use Rattle.texts.proofs.NumberLaw.{numberFrom, number-is, digit-range, ended, other, long, led, more, grows, small, settled-fits, held}
+use Prim.Native.Nat.{_-_, _≤_}
+use mathlib.Core.Path.{sym, _∙_}
+use Rattle.texts.specs.Counting.{Counting, none-counted, one-more, fits, digit-range}
+use Rattle.texts.proofs.NumberLaw.{number-ends, number-long, held}
 use Rattle.texts.proofs.number.Statement.{statement}
 use Rattle.texts.proofs.number.Tie as tie
 
 abbrev Inv-loop : tie.InvT-loop
-Inv-loop s most t₀ value₀ used₀ t value used = (used + length t ≡ length s) × (used ≤ most) × (value < 10 ^ used) × (numberFrom most t value used ≡ numberFrom most s 0 0)
+Inv-loop s most end value₀ used₀ value used = (used ≤ end) × Counting s value used
 
 abbrev μ-loop : tie.MeasureT-loop
-μ-loop s most t₀ value₀ used₀ t value used = length t
+μ-loop s most end value₀ used₀ value used = end - used
+
+lesser-requires : tie.Need-lesser-requires Inv-loop μ-loop
+lesser-requires c κs = search needs
 
 loop-holds : tie.Need-loop-holds Inv-loop μ-loop
-loop-holds c = search needs
+loop-holds c = (search needs, none-counted _)
 
 shared-slice-read-b : tie.Need-shared-slice-read-b Inv-loop μ-loop
 shared-slice-read-b c = search needs
@@ -30,87 +32,49 @@ settle-requires c κs = search needs
 
 returns : tie.Need-returns Inv-loop μ-loop
 returns c =
-    let i = c .before .before .before .before .before .loop .inv in (
-      c .settle .ensures
-          ∙ sym (other _ _ _ _ (cc (not-true (c .before .before .is-digit .result) (c .before .if1 .taken))))
-          ∙ i .3 ∙ number-is _ _,
-      rw (c .settle .ensures) (settled-fits _ _ _ (i .2) (omega arith) (omega arith)),
-    )
-
-returns-2 : tie.Need-returns-2 Inv-loop μ-loop
-returns-2 c =
-    let i = c .before .before .before .before .before .loop .inv in (
-      sym (long _ _ _ _ (omega arith) (cc (not-false (c .before .before .is-digit .result) (c .before .if1 .left))) (omega arith))
-          ∙ i .3 ∙ number-is _ _,
-      search needs,
-    )
-
-lone-zero-requires : tie.Need-lone-zero-requires Inv-loop μ-loop
-lone-zero-requires c κs = search needs
-
-returns-3 : tie.Need-returns-3 Inv-loop μ-loop
-returns-3 c =
-    let i = c .before .before .before .before .before .before .before .loop .inv in (
-      sym (led _ _ _ _ (omega arith)
-          (cc (not-false (c .before .before .before .before .is-digit .result) (c .before .before .before .if1 .left))) (omega arith) (cc))
-          ∙ i .3 ∙ number-is _ _,
-      search needs,
-    )
+    let i = c .before .before .before .before .before .loop .inv .1 in
+    let e = sym (c .before .before .is-digit .ensures) ∙ not-true _ (c .before .if1 .taken) in
+    number-ends _ i e (omega arith) (omega arith) (omega arith) (c .settle .ensures)
 
 mul-value : tie.Need-mul-value Inv-loop μ-loop
-mul-value c = omega (arith, small _ _ (c .before .before .before .before .before .before .before .loop .inv .2) (omega arith))
+mul-value c = omega (arith, fits (c .before .before .before .before .loop .inv .1) (omega arith))
 
 sub-wide : tie.Need-sub-wide Inv-loop μ-loop
-sub-wide c =
-    let b = getD (c .before .before .before .before .before .before .before .loop .t .now) 0 0 in
-    digit-range b (held (c .before .before .before .before .is-digit .ensures) (c .before .before .before .if1 .left)) .0
+sub-wide c = digit-range _ (held (c .before .is-digit .ensures) (c .if1 .left)) .0
 
 wide-requires : tie.Need-wide-requires Inv-loop μ-loop
 wide-requires c κs = search needs
 
 add-value : tie.Need-add-value Inv-loop μ-loop
 add-value c =
-    let b = getD (c .before .before .before .before .before .before .before .before .loop .t .now) 0 0 in
-    let d = digit-range b (held (c .before .before .before .before .before .is-digit .ensures) (c .before .before .before .before .if1 .left)) in
-    omega (arith, small _ _ (c .before .before .before .before .before .before .before .before .loop .inv .2) (omega arith))
+    let n = one-more (c .before .before .before .before .before .loop .inv .1) (search held) (c .wide .ensures) in
+    omega (arith, fits n (omega arith))
 
 add-used : tie.Need-add-used Inv-loop μ-loop
 add-used c = search needs
-
-sub-t : tie.Need-sub-t Inv-loop μ-loop
-sub-t c = search needs
-
-part-t-start : tie.Need-part-t-start Inv-loop μ-loop
-part-t-start c = search needs
-
-part-t-end : tie.Need-part-t-end Inv-loop μ-loop
-part-t-end c = search needs
 
 loop-less : tie.Need-loop-less Inv-loop μ-loop
 loop-less c = search needs
 
 loop-again : tie.Need-loop-again Inv-loop μ-loop
-loop-again c =
-    let i = c .before .before .before .before .before .before .before .before .before .loop .inv in
-    let b = getD (c .before .before .before .before .before .before .before .before .before .loop .t .now) 0 0 in
-    let e = held (c .before .before .before .before .before .before .is-digit .ensures) (c .before .before .before .before .before .if1 .left) in
-    let d = digit-range b e in (
-      search needs,
-      search needs,
-      grows _ _ _ (i .2) (omega arith),
-      rw (rest-is, c .before .wide .ensures) (sym (more _ _ _ _ (omega arith) e (omega arith)
-          (cc)) ∙ i .3),
-    )
+loop-again c = (omega arith, search (one-more, held))
+
+digit-at-requires : tie.Need-digit-at-requires Inv-loop μ-loop
+digit-at-requires c κs = search needs
+
+returns-2 : tie.Need-returns-2 Inv-loop μ-loop
+returns-2 c =
+    let i = c .before .before .before .loop .inv .1 in
+    (number-long _ i (sym (c .before .digit-at .ensures) ∙ c .if2 .taken) (omega arith), search needs)
 
 settle-requires-2 : tie.Need-settle-requires-2 Inv-loop μ-loop
 settle-requires-2 c κs = search needs
 
-returns-4 : tie.Need-returns-4 Inv-loop μ-loop
-returns-4 c =
-    let i = c .before .before .loop .inv in (
-      c .settle2 .ensures ∙ sym (ended _ _ _ _ (omega arith)) ∙ i .3 ∙ number-is _ _,
-      rw (c .settle2 .ensures) (settled-fits _ _ _ (i .2) (omega arith) (omega arith)),
-    )
+returns-3 : tie.Need-returns-3 Inv-loop μ-loop
+returns-3 c =
+    let i = c .before .before .before .before .loop .inv .1 in
+    let e = sym (c .before .before .digit-at .ensures) ∙ c .before .if2 .left in
+    number-ends _ i e (omega arith) (omega arith) (omega arith) (c .settle2 .ensures)
 
 pub number-spec : {M : Type 1} → statement M
 number-spec =
@@ -118,23 +82,20 @@ number-spec =
     (tie.spec
     Inv-loop
     μ-loop
+    lesser-requires
     loop-holds
     shared-slice-read-b
     is-digit-requires
     settle-requires
     returns
-    returns-2
-    lone-zero-requires
-    returns-3
     mul-value
     sub-wide
     wide-requires
     add-value
     add-used
-    sub-t
-    part-t-start
-    part-t-end
     loop-less
     loop-again
+    digit-at-requires
+    returns-2
     settle-requires-2
-    returns-4)
+    returns-3)
