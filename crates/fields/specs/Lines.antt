@@ -1,16 +1,15 @@
 -- A test put to each line of an ended text, line by line. Assumes nothing.
 use mathlib.Core.Path.{_≡_, refl, sym, _∙_}
-use Prim.Native.Nat.{ℕ, _+_, _≤_, _<_}
+use Prim.Native.Nat.{_+_, _≤_, _<_}
 use native.Mathlib.Omega.{arith}
-use mathlib.Core.Bool.{Bool, true, false, _&&_, and-false, and-assoc, and-comm}
-use mathlib.Core.List.{List, [], _∷_}
+use mathlib.Core.Bool.{Bool, true, false, _&&_, and-false}
+use mathlib.Core.List.{[], _∷_}
 use lib.ListN.{length, drop}
-use lib.Dec.{eqb, ltb}
 use borrow.Author.Tests.{ltb-true, ltb-false, eq-eqb, ne-eqb}
 use Rattle.csl.specs.Text.{Text, every}
 use Rattle.csl.specs.Line.{lineFeed, linesOf, isEnded}
 use Rattle.texts.specs.Span.{spanOf}
-use Rattle.texts.specs.Cut.{lines-cut, ended-cut, lines-none, ended-none, span-within}
+use Rattle.texts.specs.Cut.{lines-cut, ended-cut, lines-none, ended-none}
 use Rattle.fields.specs.LineAt.{lineAt, isEndedAt}
 
 -- the text is ended, and each of its lines passes the test
@@ -37,6 +36,13 @@ module _ (p : Text → Bool) (t : Text) where
       go : (x : Bool) → isEndedAt t ≡ x → (x && p (lineAt t)) ≡ false → (isEnded t && every p (linesOf t)) ≡ false
       go true e q = rw (lines-are t e, q) (and-false (isEnded t))
       go false e q = rw (ended-none t (ltb-false _ _ e), ne-eqb (length t) 0 (omega arith))
+
+  pub pass-first : 0 < length t → linesPass p t ≡ true → (isEndedAt t && p (lineAt t)) ≡ true
+  pass-first l h = go (isEndedAt t && p (lineAt t)) refl
+    where
+      go : (x : Bool) → (isEndedAt t && p (lineAt t)) ≡ x → x ≡ true
+      go true e = refl
+      go false e = sym (pass-not l e) ∙ h
 
   pub pass-end : length t ≤ 0 → linesPass p t ≡ true
   unfolding linesPass every

@@ -20,7 +20,7 @@ use Rattle.texts.specs.declared.Num.{Num}
 use Rattle.texts.specs.declared.Num.the-variants.{Value, Bad}
 use Rattle.fields.specs.LineAt.{lineAt, isEndedAt, fieldsAt, line-feed, line-byte, ended-feed, ended-byte, ended-nil, span-byte, span-feed, fields-nil, fields-comma, fields-byte, fields-some}
 use Rattle.fields.specs.Bools.{and-middle, and-swap}
-use Rattle.fields.specs.Field.{fieldAt, endedBy}
+use Rattle.fields.specs.Field.{fieldAt, endedBy, HasDigits}
 
 -- the line at the start is ended, and its fields are so many numbers
 unfoldable pub numbersIn : ℕ → Text → Bool
@@ -250,9 +250,6 @@ module _ (t : Text) (v u : ℕ) where
   pub comma-ended : Reading comma t v u → isEndedAt t ≡ isEndedAt (drop u t)
   comma-ended r = run-ended t ∙ rw (behind-is comma t v u r) (ended-byte (drop u t) comma (omega arith))
 
-  pub feed-ended : Reading lineFeed t v u → isEndedAt t ≡ true
-  feed-ended r = run-ended t ∙ rw (behind-is lineFeed t v u r) (ended-feed (drop u t))
-
   pub feed-fields : Reading lineFeed t v u → fieldsAt t ≡ digitRun t ∷ []
   feed-fields r = run-fields t ∙ rw (behind-is lineFeed t v u r, line-feed (drop u t), fields-nil, append-nil (digitRun t))
 
@@ -291,3 +288,28 @@ reading-below t v n h = go (isNumber sheetDigits (digitRun t)) refl h
     go : (x : Bool) → isNumber sheetDigits (digitRun t) ≡ x → cond x (Value (valueOf (digitRun t)) (length (digitRun t))) Bad ≡ Value v n → v < 1000000000
     go true e q = let w : valueOf (digitRun t) ≡ v = cc in omega (arith, number-below (digitRun t) e)
     go false e q = let z : _≡_ {A = ℕ} 0 1 = cc in absurd (omega arith)
+
+-- a field that passes is read, and what stands behind it passes
+passed : (end : ℕ) (p : Text → Bool) (t : Text) {v u : ℕ} → thenIn p t (fieldAt end t) ≡ true → v ≡ valueOf (digitRun t) → u ≡ length (digitRun t) + 1
+    → Reading end t v u × (p (drop u t) ≡ true)
+passed end p t {v} {u} h i j = go (fieldAt end t) refl h
+  where
+    go : (f : Num) → fieldAt end t ≡ f → thenIn p t f ≡ true → Reading end t v u × (p (drop u t) ≡ true)
+    go Bad e q = absurd (false≢true q)
+    go (Value x n) e q =
+        let r = reading end t x n e in
+        let a : x ≡ v = cc in
+        let b : n ≡ u = cc in
+        (rw (a, b) at r, rw b at q)
+
+-- the first of several numbers that pass, and the last
+module _ (t : Text) {v u : ℕ} where
+  pub first-passed : (k : ℕ) → numbersIn (suc (suc k)) t ≡ true → v ≡ valueOf (digitRun t) → u ≡ length (digitRun t) + 1
+      → Reading comma t v u × (numbersIn (suc k) (drop u t) ≡ true)
+  first-passed k h = passed comma (numbersIn (suc k)) t (sym (numbers-more k t) ∙ h)
+
+  pub last-passed : numbersIn 1 t ≡ true → v ≡ valueOf (digitRun t) → u ≡ length (digitRun t) + 1 → Reading lineFeed t v u
+  last-passed h i j = passed lineFeed (λ w. true) t (sym (numbers-last t) ∙ h) i j .0
+
+pub has-digits : {end : ℕ} {t : Text} {v u : ℕ} → Reading end t v u → HasDigits t
+has-digits {t = t} r = (number-facts sheetDigits (digitRun t) (r .number) .1, omega (arith, r .used, r .within))

@@ -4,7 +4,7 @@ ghost use mathlib.Core.Path.{_≡_};
 ghost use Prim.Native.Nat.{_≤_, _*_};
 ghost use mathlib.Core.Bool.{cond};
 ghost use lib.ListN.{length};
-ghost use Rattle.fields.specs.Field.{fieldAt, FieldFits};
+ghost use Rattle.fields.specs.Field.{fieldAt, FieldFits, HasDigits, KnownAt};
 ghost use Rattle.fields.specs.Marks.{markAt, marksIn};
 
 // The number of a sheet that stands at the start of t and is ended by the byte `end`; the bytes count it in.
@@ -24,6 +24,29 @@ pub fn field(t: &[u8], end: u8) -> Num
                 Num::Bad
             }
         }
+    }
+}
+
+// A number that the start of a text holds, and the bytes that it takes with the one that ends it.
+pub struct Known {
+    pub value: u64,
+    pub used: usize,
+}
+
+// The number at the start of a text that has passed its tests: digits, and behind them a byte that is none.
+pub fn known_field(t: &[u8]) -> Known
+    requires { ⌜ HasDigits (now t) ⌝ }
+    ensures { λ r. ⌜ KnownAt (now (t .entry)) (r .value) (r .used) ⌝ }
+{
+    let mut value: u64 = 0;
+    let mut used: usize = 0;
+    while texts::is_digit(t[used]) {
+        value = value * 10 + texts::wide(t[used] - 48);
+        used += 1;
+    }
+    Known {
+        value: value,
+        used: used + 1,
     }
 }
 

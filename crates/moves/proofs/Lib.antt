@@ -1,5 +1,6 @@
 -- Laws behind the proofs of `moves`.
 pub mod LineLaw
+pub mod KnownLaw
 pub mod ReadLaw
 pub mod FactsLaw
 pub mod RatesLaw

@@ -1,25 +1,21 @@
 -- The tally of a text, line by line. Assumes nothing.
-use mathlib.Core.Path.{_≡_, refl, sym, ap, _∙_}
-use Prim.Native.Nat.{ℕ, suc, _+_, _*_, _≤_, _<_}
+use mathlib.Core.Path.{_≡_, refl}
+use Prim.Native.Nat.{ℕ, _+_, _*_, _≤_, _<_}
 use native.Mathlib.Omega.{arith}
 use mathlib.Core.Bool.{Bool, true, false, cond, _&&_, and-eq-true-iff}
-use mathlib.Core.List.{List, [], _∷_, map}
 use lib.ListN.{length, drop}
 use lib.Dec.{eqb}
 use Rattle.csl.specs.Text.{Text}
-use Rattle.csl.specs.Line.{lineFeed, linesOf}
+use Rattle.csl.specs.Line.{lineFeed}
 use Rattle.csl.specs.Moves.{moveLine, moveOf}
 use Rattle.texts.specs.Span.{spanOf}
 use Rattle.fields.specs.LineAt.{lineAt, isEndedAt}
-use Rattle.fields.specs.Lines.{linesPass, nextLine, lines-are, lines-end, pass-more, pass-not, pass-end}
+use Rattle.fields.specs.Lines.{lines-are, lines-end, pass-more, pass-not, pass-end}
 use Rattle.moves.specs.Line.{moveAt, lineOf}
-use Rattle.moves.specs.Tally.{begun, added, sumAfter, tallied, talliedFrom}
+use Rattle.moves.specs.Tally.{added, sumAfter, tallied, talliedFrom}
 use Rattle.moves.specs.Facts.{bare, broken}
-use Rattle.moves.specs.declared.Facts.{Facts}
-use Rattle.moves.specs.declared.Line.{Line}
 use Rattle.moves.specs.declared.Line.the-variants.{Move, Bad}
 use Rattle.moves.specs.declared.Tally.{Tally}
-use Rattle.moves.specs.declared.Tallied.{Tallied}
 use Rattle.moves.specs.declared.Tallied.the-variants.{Lines, Broken}
 
 pub unended-is : (b : Bool) → record { layout = b; head = false; count = 0; strange = false; own = false; rising = b; rates = b; top = 0 } ≡ cond b bare broken
@@ -27,7 +23,7 @@ unended-is true = refl
 unended-is false = refl
 
 -- what a line that was read says
-pub record Told (t : Text) (from to rate used : ℕ) : Type 0 where
+record Told (t : Text) (from to rate used : ℕ) : Type 0 where
   pub ended : isEndedAt t ≡ true
   pub passes : moveLine (lineAt t) ≡ true
   pub its-from : moveOf (lineAt t) .from ≡ from
@@ -36,7 +32,7 @@ pub record Told (t : Text) (from to rate used : ℕ) : Type 0 where
   pub its-bytes : spanOf lineFeed t + 1 ≡ used
 
 module _ (t : Text) where
-  pub told : (f o r u : ℕ) → moveAt t ≡ Move f o r u → Told t f o r u
+  told : (f o r u : ℕ) → moveAt t ≡ Move f o r u → Told t f o r u
   unfolding moveAt
   told f o r u h = go (isEndedAt t && moveLine (lineAt t)) refl h
     where
@@ -46,7 +42,7 @@ module _ (t : Text) where
           record { ended = p .0; passes = p .1; its-from = cc; its-to = cc; its-rate = cc; its-bytes = cc }
       go false e q = let z : _≡_ {A = ℕ} 0 1 = cc in absurd (omega arith)
 
-  pub untold : moveAt t ≡ Bad → (isEndedAt t && moveLine (lineAt t)) ≡ false
+  untold : moveAt t ≡ Bad → (isEndedAt t && moveLine (lineAt t)) ≡ false
   unfolding moveAt
   untold h = go (isEndedAt t && moveLine (lineAt t)) h
     where

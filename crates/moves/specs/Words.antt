@@ -1,9 +1,12 @@
 -- The words of the moves. Assumes nothing.
-use Prim.Native.Nat.{ℕ}
-use mathlib.Core.List.{List}
-use lib.ListN.{getD}
+use mathlib.Core.Path.{_≡_}
+use Prim.Native.Nat.{ℕ, _+_, _≤_}
+use lib.ListN.{length, getD}
 use Rattle.csl.specs.Text.{Text}
-use Rattle.csl.specs.Moves.{Move, movesOf}
+use Rattle.csl.specs.Line.{lineFeed}
+use Rattle.csl.specs.Moves.{Move, moveOf, movesOf}
+use Rattle.texts.specs.Span.{spanOf}
+use Rattle.fields.specs.LineAt.{lineAt}
 use Rattle.packing.specs.Packed.{packedMove}
 
 -- what a place past the last move shows
@@ -13,3 +16,9 @@ noMove = record { from = 0; to = 0; rate = 0 }
 -- the word of the j-th move of a text
 abbrev pub wordOf : Text → ℕ → ℕ
 wordOf moves j = packedMove (getD (movesOf moves) j noMove)
+
+-- the word of the move line at the start of t, and the bytes of the line with its line feed
+pub record WordAt (t : Text) (word used : ℕ) : Type 0 where
+  pub word-is : word ≡ packedMove (moveOf (lineAt t))
+  pub used-is : used ≡ spanOf lineFeed t + 1
+  pub within : used ≤ length t

@@ -1,17 +1,18 @@
 // The moves text: what its lines say, for the refusals; and its moves as words.
+use fields::Known;
 use texts::Num;
 ghost use mathlib.Core.Path.{_≡_};
 ghost use Prim.Native.Nat.{_+_, _*_, _≤_, _<_, max};
-ghost use mathlib.Core.Bool.{cond, true};
-ghost use lib.ListN.{length, getD};
-ghost use lib.Dec.{eqb};
+ghost use mathlib.Core.Bool.{cond, true, _&&_};
+ghost use lib.ListN.{length};
 ghost use Rattle.csl.specs.Limits.{sheetBytes};
 ghost use Rattle.csl.specs.Moves as csl;
+ghost use Rattle.fields.specs.LineAt.{lineAt, isEndedAt};
 ghost use Rattle.numbers.specs.Table.{Table};
 ghost use Rattle.moves.specs.Line.{moveAt, LineFits};
 ghost use Rattle.moves.specs.Tally.{Addable, added, begun, talliedAt};
 ghost use Rattle.moves.specs.Facts.{bare, broken, factsFrom, factsOf};
-ghost use Rattle.moves.specs.Words.{wordOf};
+ghost use Rattle.moves.specs.Words.{wordOf, WordAt};
 
 // A line of three numbers, and its bytes with the line feed.
 pub enum Line {
@@ -217,6 +218,24 @@ pub fn read(s: &[u8], states: usize) -> Facts
     facts_of(head, tally_lines(&s[end + 1..], states as u64))
 }
 
+// The word of the move line at the start of t, a line that has passed its tests, and its bytes with the line feed.
+fn known_line(t: &[u8]) -> Known
+    requires { ⌜ (isEndedAt (now t) && csl.moveLine (lineAt (now t))) ≡ true ⌝ }
+    ensures { λ r. ⌜ WordAt (now (t .entry)) (r .value) (r .used) ⌝ }
+{
+    let from = fields::known_field(t);
+    let a = from.used;
+    let u = &t[a..];
+    let to = fields::known_field(u);
+    let b = to.used;
+    let w = &u[b..];
+    let rate = fields::known_field(w);
+    Known {
+        value: packing::pack(from.value, to.value, rate.value),
+        used: a + b + rate.used,
+    }
+}
+
 // The moves of an accepted text, one word each.
 pub fn store(s: &[u8], words: &mut [u64])
     requires { ⌜ (csl.movesLayout (now s) ≡ true) × (length (csl.movesOf (now s)) ≤ length (now words)) ⌝ }
@@ -229,20 +248,10 @@ pub fn store(s: &[u8], words: &mut [u64])
     let mut t = &s[end + 1..];
     let mut j: usize = 0;
     while 0 < t.len() {
-        match move_line(t) {
-            Line::Bad => {
-                return;
-            }
-            Line::Move {
-                from,
-                to,
-                rate,
-                used,
-            } => {
-                words[j] = packing::pack(from, to, rate);
-                j += 1;
-                t = &t[used..];
-            }
-        }
+        let line = known_line(t);
+        let used = line.used;
+        words[j] = line.value;
+        j += 1;
+        t = &t[used..];
     }
 }

@@ -54,7 +54,7 @@ module _ {s : Text} {v n : ℕ} (most : ℕ) (c : Counting s v n) where
   pub number-ends : {r : Num} → isDigit (getD s n 0) ≡ false → n ≤ length s → n ≤ most → most ≤ 10 → r ≡ settled s v n
       → (r ≡ numberAt most s) × NumberFits (length s) r
   number-ends h l k m e =
-      (e ∙ settled-is most (counted c h) k, rw e (settled-fits s v n (fits c (omega arith)) l))
+      (e ∙ settled-is most (counted c h) k, rw e (settled-fits s v n (fits c 10 (omega arith)) l))
 
   -- a digit too many follows
   pub number-long : isDigit (getD s n 0) ≡ true → min (length s) most ≤ n → Bad ≡ numberAt most s

@@ -75,6 +75,5 @@ module _ {s : Text} {value used : ℕ} (c : Counting s value used) where
         value-is = rw (run-ends s used h) at (c .value-is);
       }
 
-  -- ten digits stay below ten billion
-  pub fits : used ≤ 10 → value < 10000000000
-  fits h = omega (arith, c .small, pow-le-pow-right {n = 10} (omega arith) h)
+  pub fits : (most : ℕ) → used ≤ most → value < 10 ^ most
+  fits most h = omega (arith, c .small, pow-le-pow-right {n = 10} (omega arith) h)

@@ -1,5 +1,4 @@
 -- `move_line` meets its contract. Assumes nothing.
-use Rattle.moves.proofs.LineLaw.{line-bytes}
 use native.Mathlib.Omega.{arith}
 use mathlib.Core.Path.{sym, _∙_}
 use Rattle.texts.specs.Cut.{rest-is}
@@ -80,27 +79,29 @@ returns-3 c =
 
 add-t12 : tie.Need-add-t12
 add-t12 c =
-    let d = sym (c .before .before .before .before .before .before .before .before .before .before .before .before .before .field .ensures .0) ∙ c .before .before .before .before .before .before .before .before .before .before .before .from .given .1 in
-    let e = sym (rw rest-is at (c .before .before .before .before .before .before .before .before .field2 .ensures .0)) ∙ c .before .before .before .before .before .before .to .given .1 in
-    let i = sym (rw (rest-is, rest-is) at (c .before .before .before .field3 .ensures .0)) ∙ c .before .rate .given .1 in
-    omega (arith, line-bytes _ _ _ d _ _ e _ _ i)
+    let b = c .before .before .before .before .before .before in
+    let f = rw (b .before .before .before .before .before .from .given .1) at (b .before .before .before .before .before .before .before .field .ensures .1) in
+    let g = rw (b .to .given .1) at (b .before .before .field2 .ensures .1) in
+    omega arith
 
 add-t18 : tie.Need-add-t18
 add-t18 c =
-    let d = sym (c .before .before .before .before .before .before .before .before .before .before .before .before .before .field .ensures .0) ∙ c .before .before .before .before .before .before .before .before .before .before .before .from .given .1 in
-    let e = sym (rw rest-is at (c .before .before .before .before .before .before .before .before .field2 .ensures .0)) ∙ c .before .before .before .before .before .before .to .given .1 in
-    let i = sym (rw (rest-is, rest-is) at (c .before .before .before .field3 .ensures .0)) ∙ c .before .rate .given .1 in
-    omega (arith, line-bytes _ _ _ d _ _ e _ _ i)
+    let b = c .before .before .before .before .before .before in
+    let f = rw (b .before .before .before .before .before .from .given .1) at (b .before .before .before .before .before .before .before .field .ensures .1) in
+    let g = rw (b .to .given .1) at (b .before .before .field2 .ensures .1) in
+    let h = rw (c .before .rate .given .1) at (c .before .before .before .field3 .ensures .1) in
+    omega arith
 
 returns-4 : tie.Need-returns-4
 returns-4 c =
-    let f = rw (c .before .before .before .before .before .before .before .before .before .before .before .from .given .1) at (c .before .before .before .before .before .before .before .before .before .before .before .before .before .field .ensures .1) in
-    let g = rw (c .before .before .before .before .before .before .to .given .1) at (c .before .before .before .before .before .before .before .before .field2 .ensures .1) in
+    let b = c .before .before .before .before .before .before in
+    let f = rw (b .before .before .before .before .before .from .given .1) at (b .before .before .before .before .before .before .before .field .ensures .1) in
+    let g = rw (b .to .given .1) at (b .before .before .field2 .ensures .1) in
     let h = rw (c .before .rate .given .1) at (c .before .before .before .field3 .ensures .1) in
-    let d = sym (c .before .before .before .before .before .before .before .before .before .before .before .before .before .field .ensures .0) ∙ c .before .before .before .before .before .before .before .before .before .before .before .from .given .1 in
-    let e = sym (rw rest-is at (c .before .before .before .before .before .before .before .before .field2 .ensures .0)) ∙ c .before .before .before .before .before .before .to .given .1 in
+    let d = sym (b .before .before .before .before .before .before .before .field .ensures .0) ∙ b .before .before .before .before .before .from .given .1 in
+    let e = sym (rw rest-is at (b .before .before .field2 .ensures .0)) ∙ b .to .given .1 in
     let i = sym (rw (rest-is, rest-is) at (c .before .before .before .field3 .ensures .0)) ∙ c .before .rate .given .1 in
-    (sym (line-read _ _ _ d _ _ e _ _ i), (f .0, g .0, h .0, omega arith, line-bytes _ _ _ d _ _ e _ _ i))
+    (sym (line-read _ _ _ d _ _ e _ _ i), (f .0, g .0, h .0, omega arith, omega arith))
 
 pub move-line-spec : {M : Type 1} → statement M
 move-line-spec =

@@ -2,8 +2,7 @@
 use borrow.Author.Needs.{needs}
 use native.Mathlib.Omega.{arith}
 use lib.ListN.{length}
-use Rattle.moves.proofs.StoreLaw.{Storing, start, start-none, sized, done}
-use Rattle.moves.proofs.StoreLaw.{never-bad, from-fits, to-fits, rate-fits, line-ends, room, offset-fits, next-fits, turn, falls}
+use Rattle.moves.proofs.StoreLaw.{Storing, start, start-none, sized, done, line-passes, room, offset-fits, next-fits, turn}
 use Rattle.moves.proofs.store.Statement.{statement}
 use Rattle.moves.proofs.store.Tie as tie
 
@@ -34,23 +33,8 @@ part-t-end c = search needs
 loop-holds : tie.Need-loop-holds Inv-loop μ-loop
 loop-holds c = search start
 
-move-line-requires : tie.Need-move-line-requires Inv-loop μ-loop
-move-line-requires c κs = search needs
-
-enum-told : tie.Need-enum-told Inv-loop μ-loop
-enum-told c = search needs
-
-same-length : tie.Need-same-length Inv-loop μ-loop
-same-length c = search sized
-
-returns-2 : tie.Need-returns-2 Inv-loop μ-loop
-returns-2 c = search never-bad
-
-enum-known-from : tie.Need-enum-known-from Inv-loop μ-loop
-enum-known-from c = search needs
-
-pack-requires : tie.Need-pack-requires Inv-loop μ-loop
-pack-requires c κs = search (from-fits, to-fits, rate-fits)
+known-line-requires : tie.Need-known-line-requires Inv-loop μ-loop
+known-line-requires c κs = search line-passes
 
 mul-words : tie.Need-mul-words Inv-loop μ-loop
 mul-words c = search offset-fits
@@ -62,25 +46,25 @@ add-j : tie.Need-add-j Inv-loop μ-loop
 add-j c = search next-fits
 
 sub-t-2 : tie.Need-sub-t-2 Inv-loop μ-loop
-sub-t-2 c = search line-ends
+sub-t-2 c = search needs
 
 part-t-start-2 : tie.Need-part-t-start-2 Inv-loop μ-loop
-part-t-start-2 c = search line-ends
+part-t-start-2 c = search needs
 
 part-t-end-2 : tie.Need-part-t-end-2 Inv-loop μ-loop
 part-t-end-2 c = search needs
 
 loop-less : tie.Need-loop-less Inv-loop μ-loop
-loop-less c = search falls
+loop-less c = search needs
 
 loop-again : tie.Need-loop-again Inv-loop μ-loop
 loop-again c = search turn
 
-same-length-2 : tie.Need-same-length-2 Inv-loop μ-loop
-same-length-2 c = search sized
+same-length : tie.Need-same-length Inv-loop μ-loop
+same-length c = search sized
 
-returns-3 : tie.Need-returns-3 Inv-loop μ-loop
-returns-3 c = done (c .before .loop .inv) (omega arith)
+returns-2 : tie.Need-returns-2 Inv-loop μ-loop
+returns-2 c = done (c .before .loop .inv) (omega arith)
 
 pub store-spec : {M : Type 1} → statement M
 store-spec =
@@ -95,12 +79,7 @@ store-spec =
     part-t-start
     part-t-end
     loop-holds
-    move-line-requires
-    enum-told
-    same-length
-    returns-2
-    enum-known-from
-    pack-requires
+    known-line-requires
     mul-words
     slice-write-words
     add-j
@@ -109,5 +88,5 @@ store-spec =
     part-t-end-2
     loop-less
     loop-again
-    same-length-2
-    returns-3)
+    same-length
+    returns-2)

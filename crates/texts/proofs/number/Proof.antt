@@ -37,7 +37,7 @@ returns c =
     number-ends _ i e (omega arith) (omega arith) (omega arith) (c .settle .ensures)
 
 mul-value : tie.Need-mul-value Inv-loop μ-loop
-mul-value c = omega (arith, fits (c .before .before .before .before .loop .inv .1) (omega arith))
+mul-value c = omega (arith, fits (c .before .before .before .before .loop .inv .1) 10 (omega arith))
 
 sub-wide : tie.Need-sub-wide Inv-loop μ-loop
 sub-wide c = digit-range _ (held (c .before .is-digit .ensures) (c .if1 .left)) .0
@@ -48,7 +48,7 @@ wide-requires c κs = search needs
 add-value : tie.Need-add-value Inv-loop μ-loop
 add-value c =
     let n = one-more (c .before .before .before .before .before .loop .inv .1) (search held) (c .wide .ensures) in
-    omega (arith, fits n (omega arith))
+    omega (arith, fits n 10 (omega arith))
 
 add-used : tie.Need-add-used Inv-loop μ-loop
 add-used c = search needs
