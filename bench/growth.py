@@ -2,6 +2,7 @@
 from math import log
 
 PEAK = 1 << 40                          # the greatest weight of the engine
+NEGLIGIBLE = 1 << 34                    # weights that are together at most this part of the total are dropped
 
 
 def slope(points):
@@ -26,11 +27,24 @@ def two_terms(points):
     return a, b, max(abs(a * x + b * z - 1) for x, z in shares)
 
 
+def weights(load, depth):
+    """The engine's weights of steps 0 to the depth for a whole load: the greatest, and from it both ways, rounded down."""
+    found = {load: PEAK}
+    for step in range(load, 0, -1):
+        found[step - 1] = found[step] * step // load
+    for step in range(load + 1, depth + 1):
+        found[step] = found[step - 1] * load // step
+    return [found[step] for step in range(depth + 1)]
+
+
 def steps_made(depth):
-    """How many steps the engine makes for a whole load of this depth: those up to the last whose weight, rounded down, is above 0."""
+    """How many steps the engine makes for a whole load of this depth: the weights of those after are together next to nothing."""
     load = (depth - 40) // 2
-    step, weight = load, PEAK
-    while step < depth and weight * load // (step + 1):
-        step += 1
-        weight = weight * load // step
+    found = weights(load, depth)
+    lacking = [abs(load - step) for step in range(depth + 1)]
+    most = (sum(found) + sum(lacking) + found[-1] + lacking[-1]) // NEGLIGIBLE
+    step, rest = depth, found[depth]
+    while step and rest <= most:
+        step -= 1
+        rest += found[step]
     return step

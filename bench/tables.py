@@ -72,7 +72,7 @@ def fit_lines(rows, others):
         return steps_made(row.depth)
     told = ", ".join(f"{steps_made(depth)} at depth {depth}" for depth in sorted({row.depth for row in rows}))
     return "\n".join([fit_line("doubles", rows, others, "depth", depth), fit_line("engine", rows, others, "depth", depth),
-                      f"Steps that the engine makes, up to the last whose weight is above 0: {told}.",
+                      f"Steps that the engine makes, up to the last whose weight counts: {told}.",
                       fit_line("engine", rows, others, "steps", steps)])
 
 

@@ -4,6 +4,7 @@ pub mod Ladder
 pub mod Weight
 pub mod Unit
 pub mod Under
+pub mod Last
 pub mod Ends
 pub mod Upper
 pub mod Width

@@ -2,11 +2,11 @@
 -- with its greatest weight at step a / b, at the depth 2 × (a / b rounded up) + 40: the quotients from there on lie between them, and
 -- they are at most 4 × D and the error apart. Assumes nothing.
 use mathlib.Core.Path.{_≡_}
-use Prim.Native.Nat.{ℕ, suc, _+_, _*_, _-_, _/_, _≤_, _<_}
+use Prim.Native.Nat.{ℕ, _+_, _*_, _-_, _/_, _≤_, _<_}
 use native.Mathlib.Omega.{arith}
 use native.Mathlib.Nat.{le-of-mul-le-mul-right}
 use Rattle.numbers.specs.Hint.{le-times, div-low, div-high}
-use Rattle.csl.specs.Limits.{billion, spareSteps, widthFactor}
+use Rattle.csl.specs.Limits.{spareSteps, widthFactor}
 use Rattle.csl.specs.Fraction.{Fraction, frac, Below, billionths, roundUp}
 use Rattle.csl.specs.Chain.{Chain, topRate}
 use Rattle.csl.specs.Phase.{Phase, divisor, stepTop, stepValue, quotient}

@@ -2,13 +2,13 @@
 -- undecided as yes. Assumes nothing.
 use mathlib.Core.Path.{_≡_, refl, sym, _∙_, ap}
 use mathlib.Core.Bool.{Bool, true, false}
-use Prim.Native.Nat.{ℕ, zero, suc, _+_, _*_, _-_, _/_, _≤_, _<_}
+use Prim.Native.Nat.{ℕ, zero, suc, _*_, _-_, _/_, _≤_, _<_}
 use native.Mathlib.Omega.{arith}
 use Rattle.csl.specs.Limits.{billion, rateHours}
 use Rattle.csl.specs.Chain.{Chain, topRate, load, depth}
 use Rattle.csl.specs.Phase.{Phase, bit, untilPhase}
 use Rattle.csl.specs.Verdicts.{Verdict, No, Yes, least, most}
-use Rattle.csl.specs.Ends.{EndsAt, AllDecided, slack}
+use Rattle.csl.specs.Ends.{EndsAt, AllDecided}
 use Rattle.csl.specs.Laws.Verdicts.{decided-same}
 use Rattle.csl.specs.Laws.Quotient.{until-starts}
 use Rattle.csl.specs.Laws.SummedEnds.{Bounds, ends-summed}

@@ -1,7 +1,7 @@
 -- The two ends of an until at a state, by cases as the code decides them, keep the rules for ends. Assumes nothing.
 use mathlib.Core.Path.{_≡_, refl, ap, sym, _∙_}
 use mathlib.Core.Bool.{Bool, true, false, cond}
-use Prim.Native.Nat.{ℕ, _*_, _-_, _≤_, _<_}
+use Prim.Native.Nat.{ℕ, _*_, _≤_, _<_}
 use native.Mathlib.Omega.{arith}
 use lib.Dec.{eqb}
 use borrow.Author.Tests.{eqb-true, eqb-false}
@@ -10,7 +10,6 @@ use Rattle.csl.specs.Chain.{Chain, topRate, depth}
 use Rattle.csl.specs.Phase.{bit, untilPhase}
 use Rattle.csl.specs.Verdicts.{Verdict, No, Yes, Undecided, asNo, asYes, least, most}
 use Rattle.csl.specs.Ends.{EndsAt}
-use Rattle.csl.specs.Laws.Ends.{ordered}
 use Rattle.csl.specs.Laws.PointEnds.{ends-certain, ends-impossible, ends-still}
 use Rattle.bounds.specs.Width.{mostDepth}
 use Rattle.bounds.specs.Values.{Rounds, pointed, lowerOf, upperOf}
@@ -58,12 +57,3 @@ module _ (c : Chain) (t s : ℕ) (v w : ℕ → Verdict) (in-range : s < c .stat
     -- the ends keep every rule
     pub until-ends : EndsAt c t v w s (untilLower c t v w val s) (untilUpper c t v w high s)
     until-ends = point-ends (v s) (w s) _ _ refl refl (still-ends (eqb (topRate c * t) 0) refl)
-
-    pub until-lower-most : untilLower c t v w val s ≤ billion
-    until-lower-most = until-ends .lower-range
-
-    pub until-upper-most : untilUpper c t v w high s ≤ billion
-    until-upper-most = until-ends .upper-range
-
-    pub until-ordered : untilLower c t v w val s ≤ untilUpper c t v w high s
-    until-ordered = ordered c t v w s _ _ in-range until-ends

@@ -6,12 +6,12 @@ use native.Mathlib.Omega.{arith}
 use native.Mathlib.Nat.{mul-pos, pow-suc, add-zero, add-suc, le-of-mul-le-mul-right, lt-of-lt-of-le}
 use borrow.Author.Tests.{le-ltb}
 use Rattle.numbers.specs.Hint.{le-times, div-low, div-high}
-use Rattle.csl.specs.Limits.{billion}
 use Rattle.csl.specs.Chain.{sumTo}
 use Rattle.bounds.specs.Ladder.{ladder}
 use Rattle.bounds.specs.Weight.{peak, low, apart, Middle, low-most}
 use Rattle.bounds.specs.Unit.{unit, one, scale, grain, part}
-use Rattle.bounds.specs.Ends.{total, gathered, lowerEnd, total-peak}
+use Rattle.bounds.specs.Ends.{total, negligible, lastStep, last-step-within, gathered, lowerEnd, total-peak, weights-most}
+use Rattle.bounds.specs.Last.{last-rest}
 use Rattle.bounds.specs.Upper.{gatherable, leftEnd, upperEnd}
 
 -- how deep the sums are taken at most, so that they fit 64 bits
@@ -68,10 +68,11 @@ gathered-gap w o x d zero l = omega arith
 gathered-gap w o x d (suc n) l =
     omega (arith, gathered-gap w o x d n (omega arith), term-gap (w n) o x n d (omega arith))
 
--- all roundings together are at most 4 * d billionths of the total t: w the sum of the lower weights, e what the total is above it
-roundings : (t w d e : ℕ) → peak ≤ t → 40 ≤ d → d ≤ mostDepth → w ≤ t → e ≤ d * d + 3 * d + 1
+-- all roundings together are at most 4 * d billionths of the total t: w the sum of the lower weights, e what the total is above it, z of
+-- that dropped
+roundings : (t w d e z : ℕ) → peak ≤ t → 40 ≤ d → d ≤ mostDepth → w ≤ t → z * negligible ≤ t → e ≤ d * d + 3 * d + 1 + z
     → 2 * unit * t + 2 * suc d * grain + w * d + one * e ≤ 4 * unit * (d * t)
-roundings t w d e p d40 deep wt eb = omega (arith, le-times d wt, le-times t d40, le-times d p, le-times d deep)
+roundings t w d e z p d40 deep wt zt eb = omega (arith, le-times d wt, le-times t d40, le-times d p, le-times d deep)
 
 -- the two ends miss 1 by at most 4 * d billionths and x units, over variables: g and h what was gathered and what was left, y for w * x
 ends-short : (l l' g h t w d e y : ℕ) → 2 * unit * t + 2 * suc d * grain + w * d + one * e ≤ 4 * unit * (d * t)
@@ -83,15 +84,15 @@ ends-short l l' g h t w d e y r i j k tw = omega arith
 ends-joined : (t c x y : ℕ) → one * t ≤ c * unit * t + y → y ≤ t * x → one * t ≤ (c * unit + x) * t
 ends-joined t c x y h k = omega arith
 
-ends-gap : (l l' g h t w d e x : ℕ) → peak ≤ t → 40 ≤ d → d ≤ mostDepth
+ends-gap : (l l' g h t w d e z x : ℕ) → peak ≤ t → 40 ≤ d → d ≤ mostDepth
     → g * scale < (l + 1) * t → h * scale < (l' + 1) * t
     → w * one ≤ (g + h + 2 * suc d) * grain + w * d + w * x
-    → w ≤ t → t ≤ w + e → e ≤ d * d + 3 * d + 1
+    → w ≤ t → t ≤ w + e → z * negligible ≤ t → e ≤ d * d + 3 * d + 1 + z
     → one ≤ (l + l' + 4 * d) * unit + x
-ends-gap l l' g h t w d e x p d40 deep i j k wt tw eb =
+ends-gap l l' g h t w d e z x p d40 deep i j k wt tw zt eb =
     le-of-mul-le-mul-right {k = t}
     (ends-joined t (l + l' + 4 * d) x (w * x)
-    (ends-short l l' g h t w d e (w * x) (roundings t w d e p d40 deep wt eb) i j k tw)
+    (ends-short l l' g h t w d e (w * x) (roundings t w d e z p d40 deep wt zt eb) i j k tw)
     (le-times x wt))
     (lt-of-lt-of-le (omega arith) p)
 
@@ -105,22 +106,31 @@ pub record Halved (a b m r : ℕ) : Type 0 where
 module _ {a b m r : ℕ} (x : ℕ) (v : ℕ → ℕ) (p : Halved a b m r) where
   -- the lower end and what is left of 1, whatever the values
   short : one ≤ (lowerEnd a b m (r + 40) v + leftEnd a b m (r + 40) x v + 4 * (r + 40)) * unit + x
-  unfolding lowerEnd leftEnd gatherable total sumTo
+  unfolding lowerEnd leftEnd gatherable total lastStep sumTo
   short =
       let deep : m ≤ r + 40 = omega (arith, p .early) in
       let t : 0 < total a b m (r + 40) = omega (arith, total-peak a b m (r + 40) deep) in
       let apart-last : apart m (r + 40) ≤ r + 40 = omega arith in
-      ends-gap (lowerEnd a b m (r + 40) v) (leftEnd a b m (r + 40) x v) (gathered a b m (r + 40) v)
-      (gatherable a b m (r + 40) x - gathered a b m (r + 40) v)
-      (total a b m (r + 40)) (sumTo (low a b m) (suc (r + 40))) (r + 40) (suc (r + 40) * (r + 40) + (1 + (r + 40))) x
+      let l : ℕ = lastStep a b m (r + 40) in
+      let within : lastStep a b m (r + 40) ≤ r + 40 = last-step-within a b m (r + 40) in
+      let z : ℕ = total a b m (r + 40) / negligible in
+      ends-gap (lowerEnd a b m (r + 40) v) (leftEnd a b m (r + 40) x v) (gathered a b m l v) (gatherable a b m l x - gathered a b m l v)
+      (total a b m (r + 40)) (sumTo (low a b m) (suc l)) (r + 40) (suc (r + 40) * (r + 40) + (1 + (r + 40)) + z) z x
       (total-peak a b m (r + 40) deep)
       (omega arith)
       (p .small)
-      (div-high (gathered a b m (r + 40) v * scale) t)
-      (div-high ((gatherable a b m (r + 40) x - gathered a b m (r + 40) v) * scale) t)
-      (omega (arith, gathered-gap (low a b m) one x (r + 40) (suc (r + 40)) (omega arith)))
-      (omega (arith, sums-le a b m (suc (r + 40))))
-      (omega (arith, total-sum a b m (suc (r + 40)) (r + 40) deep (omega arith), low-last a b m r (p .middle) (p .early) (p .halves), apart-last))
+      (div-high (gathered a b m l v * scale) t)
+      (div-high ((gatherable a b m l x - gathered a b m l v) * scale) t)
+      (omega (arith, within, gathered-gap (low a b m) one x (r + 40) (suc l) (omega (arith, within))))
+      (omega (arith, sums-le a b m (suc l), weights-most a b m l (r + 40) within))
+      (omega (
+        arith,
+        total-sum a b m (suc (r + 40)) (r + 40) deep (omega arith),
+        last-rest (low a b m) z (r + 40) 0 (omega arith),
+        low-last a b m r (p .middle) (p .early) (p .halves),
+        apart-last,
+      ))
+      (div-low (total a b m (r + 40)) negligible)
       (omega arith)
 
   -- the two ends

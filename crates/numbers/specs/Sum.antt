@@ -1,10 +1,9 @@
 -- Laws of the sum of a function below n. Assumes nothing.
 use mathlib.Core.Path.{_≡_, refl}
-use Prim.Native.Nat.{ℕ, zero, suc, _+_, _*_, _-_, _≤_, _<_}
+use Prim.Native.Nat.{ℕ, zero, suc, _+_, _*_, _≤_, _<_}
 use native.Mathlib.Omega.{arith}
 use native.Mathlib.Numerals.{add-one}
 use native.Mathlib.Nat.{le-refl, le-suc-iff}
-use native.Mathlib.Decide.{le-ind}
 use mathlib.Core.Logic.{⊎-elim}
 use Rattle.csl.specs.Chain.{sumTo}
 use Rattle.numbers.specs.Hint.{le-times}
@@ -47,11 +46,3 @@ sum-most f c zero h = omega arith
 sum-most f c (suc n) h =
     let r : (k : ℕ) → k < n → f k ≤ c = λ k l. h k (omega arith) in
     omega (arith, sum-most f c n r, h n (omega arith))
-
--- terms that are 0 from i on add nothing
-pub sum-rest-none : (f : ℕ → ℕ) (i n : ℕ) → i ≤ n → ((k : ℕ) → i ≤ k → k < n → f k ≡ 0) → sumTo f i ≡ sumTo f n
-unfolding sumTo
-sum-rest-none f i zero l h = let e : i ≡ 0 = omega arith in rw e refl
-sum-rest-none f i (suc n) l h =
-    let r : (k : ℕ) → i ≤ k → k < n → f k ≡ 0 = λ k a b. h k a (omega arith) in
-    ⊎-elim (λ b. omega (arith, sum-rest-none f i n b r, h n b (omega arith))) (λ e. rw e refl) (le-suc-iff .0 l)

@@ -6,7 +6,7 @@ use mathlib.Core.List.{List}
 use Prim.Native.Nat.{ℕ, zero, suc, _*_, _<_}
 use native.Mathlib.Omega.{arith}
 use Rattle.csl.specs.Chain.{Chain}
-use Rattle.csl.specs.Phase.{Phase, bit, untilPhase}
+use Rattle.csl.specs.Phase.{Phase, untilPhase}
 use Rattle.bounds.specs.Unit.{one}
 use Rattle.bounds.specs.Values.{settled, Rounds}
 use Rattle.rows.specs.Words.{topOf}

@@ -1,15 +1,13 @@
 -- The lower ends from the sums. Assumes nothing.
 use mathlib.Core.Path.{_≡_, refl, _∙_}
 use mathlib.Core.List.{List}
-use Prim.Native.Nat.{ℕ, _+_, _*_, _-_, _/_, _^_, _≤_, _<_}
+use Prim.Native.Nat.{ℕ, _+_, _*_, _/_, _^_, _≤_, _<_}
 use native.Mathlib.Omega.{arith}
-use native.Mathlib.Nat.{div-le-of-le-mul}
 use lib.ListN.{length, set, length-set}
 use lib.Seq.{getD-set-same, getD-set-other}
 use borrow.Author.Count.{below-more}
 use mir.Val.{Fits}
 use mir.Syntax.{w64}
-use Rattle.csl.specs.Limits.{billion}
 use Rattle.bounds.specs.Unit.{one, scale, grain}
 use Rattle.bounds.specs.Values.{pointed, verdictAt}
 use Rattle.weights.specs.Asked.{Over}

@@ -2,7 +2,7 @@
 use mathlib.Core.Path.{_≡_, refl, ap, sym, _∙_}
 use mathlib.Core.Bool.{Bool, true, false, not, _||_}
 use mathlib.Core.List.{List}
-use Prim.Native.Nat.{ℕ, _+_, _*_, _-_, _≤_, _<_}
+use Prim.Native.Nat.{ℕ, _+_, _*_, _-_, _<_}
 use native.Mathlib.Omega.{arith}
 use lib.Dec.{ltb}
 use lib.ListN.{length}
@@ -14,9 +14,9 @@ use Rattle.bounds.specs.Unit.{one, part}
 use Rattle.rows.specs.Words.{at, exitOf}
 use Rattle.step.specs.Value.{verdicts, readAs, readPhase, lowPhase, highPhase, heldOf, stayOf, startOf, valueOf, nextAt, heldAt}
 use Rattle.step.specs.Bound.{bit-most, run-cong}
-use Rattle.sums.specs.Asked.{sumsAt, BeginAsked, Begun, RunAsked, runAt, Ran}
+use Rattle.sums.specs.Asked.{BeginAsked, Begun, RunAsked, runAt, Ran}
 use Rattle.until.proofs.DecidedLaw.{first-same, second-same}
-use Rattle.until.specs.Asked.{DecidedAsked, bothDecided, phaseSum, ReadAsked, Read, HighAsked}
+use Rattle.until.specs.Asked.{DecidedAsked, bothDecided, ReadAsked, Read, HighAsked}
 
 -- what stays put says whether a value is held
 stay-held : (q e : ℕ) (b : Bool) → ltb q (stayOf q e b) ≡ b

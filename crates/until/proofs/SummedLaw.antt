@@ -8,17 +8,18 @@ use native.Mathlib.Numerals.{add-one}
 use lib.ListN.{length}
 use Rattle.csl.specs.Phase.{Phase}
 use Rattle.numbers.specs.Hint.{mul-bound}
-use Rattle.numbers.specs.Sum.{sum-cong, sum-rest-none}
+use Rattle.numbers.specs.Sum.{sum-cong}
 use Rattle.bounds.specs.Weight.{peak, low, Middle, low-most}
 use Rattle.bounds.specs.Unit.{one, grain, part}
-use Rattle.bounds.specs.Ends.{total, gathered, lowerEnd, gathered-most, total-most, total-peak}
+use Rattle.bounds.specs.Last.{lastFrom, last-same}
+use Rattle.bounds.specs.Ends.{total, negligible, lastStep, last-step-within, gathered, lowerEnd, gathered-most, total-most, total-peak}
 use Rattle.bounds.specs.Upper.{gatherable, leftEnd, gatherable-most}
 use Rattle.rows.specs.Words.{at}
 use Rattle.step.specs.Value.{verdicts, readAs, readPhase, lowPhase, highPhase, startOf, heldOf, valueOf}
 use Rattle.step.specs.Bound.{bit-most, run-most}
 use Rattle.step.specs.Asked.{Sheet}
 use Rattle.sums.specs.Asked.{sumsAt}
-use Rattle.until.specs.Asked.{WeighAsked, Weighed, LastAsked, Last, phaseSum, ReadAsked, Read, HighAsked, GatherAsked, wholeOf, LowerAsked, Lowered, UpperAsked, Uppered, SummedAsked, Summed}
+use Rattle.until.specs.Asked.{WeighAsked, Weighed, LastAsked, weightsAt, phaseSum, ReadAsked, Read, HighAsked, GatherAsked, wholeOf, LowerAsked, Lowered, UpperAsked, Uppered, SummedAsked, Summed}
 
 module _ {mv l first second : List ℕ} {n q a depth : ℕ} (p : SummedAsked mv l first second n q a depth) where
   middle : Middle a 1000000 (a / 1000000)
@@ -77,28 +78,41 @@ module _ {mv l first second : List ℕ} {n q a depth : ℕ} (p : SummedAsked mv 
           weights = λ k b. light k (omega arith);
         }
 
-    gather-kept : GatherAsked x n depth 0
-    gather-kept =
-        record { states = p .weigh .states; room = omega (arith, c .same, p .weigh .room); limit = limit; error = omega arith; weights = light }
+    look-kept : LastAsked x n depth
+    look-kept =
+        record { states = p .weigh .states; limit = limit; room = omega (arith, c .same, p .weigh .room); weights = light }
 
-    whole-is : wholeOf x n depth 0 ≡ gatherable a 1000000 (a / 1000000) depth 0
+    last-is : lastFrom (weightsAt x n) (total a 1000000 (a / 1000000) depth / negligible) depth 0 ≡ lastStep a 1000000 (a / 1000000) depth
+    unfolding lastStep
+    last-is =
+        last-same (weightsAt x n) (low a 1000000 (a / 1000000)) (total a 1000000 (a / 1000000) depth / negligible) depth (c .weights) depth 0
+        (omega arith)
+
+    gather-kept : (last : ℕ) → last ≤ depth → GatherAsked x n last 0
+    gather-kept last h =
+        record {
+          states = p .weigh .states;
+          room = omega (arith, c .same, p .weigh .room);
+          limit = omega (arith, limit);
+          error = omega arith;
+          weights = λ k b. light k (omega arith);
+        }
+
+    whole-is : (last : ℕ) → last ≤ depth → wholeOf x n last 0 ≡ gatherable a 1000000 (a / 1000000) last 0
     unfolding gatherable
-    whole-is =
+    whole-is last h =
         rw add-one
-        (ap (λ (t : ℕ). t - suc depth)
-        (sum-cong (λ k. part (at x (8 * n + k)) (one - (0 + k))) (λ k. part (low a 1000000 (a / 1000000) k) (one - (0 + k))) (suc depth)
-        (λ k h. rw (c .weights k (omega arith)) refl)))
+        (ap (λ (t : ℕ). t - suc last)
+        (sum-cong (λ k. part (at x (8 * n + k)) (one - (0 + k))) (λ k. part (low a 1000000 (a / 1000000) k) (one - (0 + k))) (suc last)
+        (λ k b. rw (c .weights k (omega arith)) refl)))
 
-    -- steps after the last with a weight add nothing
-    sum-is : (ph : Phase) (s last : ℕ) → last ≤ depth → ((k : ℕ) → last < k → k ≤ depth → at x (8 * n + k) ≡ 0)
-        → phaseSum mv x n q last ph s ≡ gathered a 1000000 (a / 1000000) depth (λ k. valueOf mv (length mv) q ph k s)
+    sum-is : (ph : Phase) (s last : ℕ) → last ≤ depth
+        → phaseSum mv x n q last ph s ≡ gathered a 1000000 (a / 1000000) last (λ k. valueOf mv (length mv) q ph k s)
     unfolding gathered
-    sum-is ph s last h none =
-        sum-rest-none (λ k. part (at x (8 * n + k)) (valueOf mv (length mv) q ph k s)) (last + 1) (depth + 1) (omega arith)
-        (λ k b e. rw (none k (omega arith) (omega arith)) (omega arith))
-        ∙ rw add-one
+    sum-is ph s last h =
+        rw add-one
         (sum-cong (λ k. part (at x (8 * n + k)) (valueOf mv (length mv) q ph k s))
-        (λ k. part (low a 1000000 (a / 1000000) k) (valueOf mv (length mv) q ph k s)) (suc depth)
+        (λ k. part (low a 1000000 (a / 1000000) k) (valueOf mv (length mv) q ph k s)) (suc last)
         (λ k b. rw (c .weights k (omega arith)) refl))
 
   total-small : total a 1000000 (a / 1000000) depth < 4503599627370496
@@ -108,7 +122,8 @@ module _ {mv l first second : List ℕ} {n q a depth : ℕ} (p : SummedAsked mv 
       omega (arith, total-most a 1000000 (a / 1000000) depth middle deep, mul-bound y z)
 
   gathered-small : (b : Bool) (s : ℕ) → s < n
-      → gathered a 1000000 (a / 1000000) depth (λ k. valueOf mv (length mv) q (readPhase b first second) k s) * grain
+      → gathered a 1000000 (a / 1000000) (lastStep a 1000000 (a / 1000000) depth)
+      (λ k. valueOf mv (length mv) q (readPhase b first second) k s) * grain
       ≤ total a 1000000 (a / 1000000) depth * one
   gathered-small b s h =
       gathered-most a 1000000 (a / 1000000) depth (λ k. valueOf mv (length mv) q (readPhase b first second) k s)
@@ -120,18 +135,25 @@ module _ {mv l first second : List ℕ} {n q a depth : ℕ} (p : SummedAsked mv 
     kept-weighed = record { same = u .same; rows = λ k b d. u .before k d; weights = u .weights; beyond = u .beyond }
 
     pub may-look : LastAsked w n depth
-    may-look = record { states = p .weigh .states; limit = limit; room = omega (arith, u .same, p .weigh .room) }
+    may-look = look-kept kept-weighed
 
-    module _ {last : ℕ} (z : Last n depth w last) where
+    module _ {last : ℕ} (z : last ≡ lastFrom (weightsAt w n) (r / negligible) depth 0) where
+      made : last ≡ lastStep a 1000000 (a / 1000000) depth
+      made = z ∙ rw (u .all) (last-is kept-weighed)
+
+      within : last ≤ depth
+      within = rw made (last-step-within a 1000000 (a / 1000000) depth)
+
       pub may-read : ReadAsked mv w first second n q last
-      may-read = read-kept kept-weighed last (z .within)
+      may-read = read-kept kept-weighed last within
 
       module _ {b : List ℕ} (i : Read mv first second n q last false w b) where
         kept-read : Kept b
         kept-read = kept-on kept-weighed (i .same) (i .after)
 
-        low-sum : (s : ℕ) → s < n → sumsAt b n s ≡ gathered a 1000000 (a / 1000000) depth (λ k. valueOf mv (length mv) q (lowPhase first second) k s)
-        low-sum s h = i .sums s h ∙ sum-is kept-weighed (lowPhase first second) s last (z .within) (z .none)
+        low-sum : (s : ℕ) → s < n → sumsAt b n s
+            ≡ gathered a 1000000 (a / 1000000) (lastStep a 1000000 (a / 1000000) depth) (λ k. valueOf mv (length mv) q (lowPhase first second) k s)
+        low-sum s h = rw (← made) (i .sums s h ∙ sum-is kept-weighed (lowPhase first second) s last within)
 
         pub may-lower : LowerAsked b first second n r
         may-lower =
@@ -149,16 +171,13 @@ module _ {mv l first second : List ℕ} {n q a depth : ℕ} (p : SummedAsked mv 
           kept-lower : Kept x
           kept-lower = kept-on kept-read (o .same) (λ k h. o .after k (omega arith))
 
-          none-lower : (k : ℕ) → last < k → k ≤ depth → at x (8 * n + k) ≡ 0
-          none-lower k h e = o .after (8 * n + k) (omega arith) ∙ i .after (8 * n + k) (omega arith) ∙ z .none k h e
-
           weight-same : (k : ℕ) → at x (8 * n + k) ≡ at w (8 * n + k)
           weight-same k = o .after (8 * n + k) (omega arith) ∙ i .after (8 * n + k) (omega arith)
 
           pub may-high : HighAsked mv x first second n q last
           may-high =
               record {
-                asked = read-kept kept-lower last (z .within);
+                asked = read-kept kept-lower last within;
                 sums = λ s h. o .after (4 * n + s) (omega arith) ∙ i .sums s h
                     ∙ sum-cong (λ k. part (at w (8 * n + k)) (valueOf mv (length mv) q (lowPhase first second) k s))
                     (λ k. part (at x (8 * n + k)) (valueOf mv (length mv) q (lowPhase first second) k s)) (last + 1)
@@ -169,13 +188,17 @@ module _ {mv l first second : List ℕ} {n q a depth : ℕ} (p : SummedAsked mv 
             kept-high : Kept y
             kept-high = kept-on kept-lower (j .same) (j .after)
 
-            high-sum : (s : ℕ) → s < n → sumsAt y n s ≡ gathered a 1000000 (a / 1000000) depth (λ k. valueOf mv (length mv) q (highPhase first second) k s)
-            high-sum s h = j .sums s h ∙ sum-is kept-lower (highPhase first second) s last (z .within) none-lower
+            high-sum : (s : ℕ) → s < n → sumsAt y n s
+                ≡ gathered a 1000000 (a / 1000000) (lastStep a 1000000 (a / 1000000) depth) (λ k. valueOf mv (length mv) q (highPhase first second) k s)
+            high-sum s h = rw (← made) (j .sums s h ∙ sum-is kept-lower (highPhase first second) s last within)
 
-            pub may-gather : GatherAsked y n depth 0
-            may-gather = gather-kept kept-high
+            pub may-gather : GatherAsked y n last 0
+            may-gather = gather-kept kept-high last within
 
-            module _ {g : ℕ} (e : g ≡ wholeOf y n depth 0) where
+            module _ {g : ℕ} (e : g ≡ wholeOf y n last 0) where
+              whole : g ≡ gatherable a 1000000 (a / 1000000) (lastStep a 1000000 (a / 1000000) depth) 0
+              whole = e ∙ rw (← made) (whole-is kept-high last within)
+
               pub may-upper : UpperAsked y first second n r g
               may-upper =
                   record {
@@ -185,7 +208,7 @@ module _ {mv l first second : List ℕ} {n q a depth : ℕ} (p : SummedAsked mv 
                     in-second = p .in-second;
                     some = omega (arith, u .all, total-peak a 1000000 (a / 1000000) depth deep);
                     divisor = omega (arith, u .all, total-small);
-                    most = rw (e, whole-is kept-high, u .all) (gatherable-most a 1000000 (a / 1000000) depth 0);
+                    most = rw (whole, u .all) (gatherable-most a 1000000 (a / 1000000) depth 0);
                   }
 
               module _ {v : List ℕ} (f : Uppered first second n r g y v) where
@@ -198,7 +221,7 @@ module _ {mv l first second : List ℕ} {n q a depth : ℕ} (p : SummedAsked mv 
                     record {
                       same = f .same ∙ kept-high .same;
                       lower = λ s h. f .before s h ∙ j .before s (omega arith) ∙ o .ends s h ∙ rw (low-sum s h, u .all) refl;
-                      upper = λ s h. f .ends s h ∙ rw (high-sum s h, e, whole-is kept-high, u .all) refl;
+                      upper = λ s h. f .ends s h ∙ rw (high-sum s h, whole, u .all) refl;
                       rows = λ k b d. f .after k (omega arith) ∙ kept-high .rows k b d;
                       beyond = λ k b. f .after k (omega arith) ∙ kept-high .beyond k b;
                     }

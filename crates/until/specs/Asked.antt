@@ -43,17 +43,16 @@ pub record Weighed (n a depth : ℕ) (l₀ l : List ℕ) (r : ℕ) : Type 0 wher
   pub before : (k : ℕ) → k < 8 * n → at l k ≡ at l₀ k
   pub beyond : (k : ℕ) → 8 * n + depth < k → at l k ≡ at l₀ k
 
--- the last step with a weight is to be found
+-- where the weights stand
+abbrev pub weightsAt : List ℕ → ℕ → ℕ → ℕ
+weightsAt l n k = at l (8 * n + k)
+
+-- the last step to be made is to be found
 pub record LastAsked (l : List ℕ) (n depth : ℕ) : Type 0 where
   pub states : n ≤ 512
   pub limit : depth < 1024
   pub room : 8 * n + depth < length l
-
--- the steps after it, through the depth, have weight 0; its own weight is above 0, unless it is step 0
-pub record Last (n depth : ℕ) (l : List ℕ) (r : ℕ) : Type 0 where
-  pub within : r ≤ depth
-  pub above : 0 < r → 0 < at l (8 * n + r)
-  pub none : (k : ℕ) → r < k → k ≤ depth → at l (8 * n + k) ≡ 0
+  pub weights : (k : ℕ) → k ≤ depth → weightsAt l n k ≤ peak
 
 -- two rows of verdict bytes to be looked through
 pub record DecidedAsked (first second : List ℕ) (n : ℕ) : Type 0 where

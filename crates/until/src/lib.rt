@@ -4,10 +4,12 @@
 // rates begin at 6 * n, the row ends at 7 * n, the weights at 8 * n.
 ghost use mathlib.Core.Path.{_≡_};
 ghost use mathlib.Core.Bool.{true, _&&_};
-ghost use Prim.Native.Nat.{_-_};
+ghost use Prim.Native.Nat.{_-_, _/_};
 ghost use lib.Dec.{eqb};
+ghost use Rattle.bounds.specs.Last.{lastFrom};
+ghost use Rattle.bounds.specs.Ends.{negligible};
 ghost use Rattle.bounds.specs.Values as values;
-ghost use Rattle.until.specs.Asked.{depthOf, Loaded, WeighAsked, Weighed, LastAsked, Last, DecidedAsked, bothDecided, ReadAsked, Read, HighAsked, GatherAsked, wholeOf, LowerAsked, Lowered, UpperAsked, Uppered, StillAsked, Still, SummedAsked, Summed, UntilAsked, Until};
+ghost use Rattle.until.specs.Asked.{depthOf, Loaded, WeighAsked, Weighed, LastAsked, weightsAt, DecidedAsked, bothDecided, ReadAsked, Read, HighAsked, GatherAsked, wholeOf, LowerAsked, Lowered, UpperAsked, Uppered, StillAsked, Still, SummedAsked, Summed, UntilAsked, Until};
 
 // Rates count moves per million hours.
 pub const RATE_HOURS: u64 = 1000000;
@@ -30,14 +32,17 @@ pub fn weigh(words: &mut [u64], n: usize, a: u64, depth: usize) -> u64
     weights::weigh(&mut words[from..], m, depth, a, RATE_HOURS)
 }
 
-// The last step whose weight is above 0, from word 8 * n on: the steps after it, through the depth, add nothing to any sum.
-fn last_weighed(words: &[u64], n: usize, depth: usize) -> usize
+// The last step to be made: the weights of those after it, through the depth, are together next to nothing of the total.
+fn last_step(words: &[u64], n: usize, depth: usize, total: u64) -> usize
     requires { ⌜ LastAsked (now words) n depth ⌝ }
-    ensures { λ r. ⌜ Last n depth (now (words .entry)) r ⌝ }
+    ensures { λ r. ⌜ r ≡ lastFrom (weightsAt (now (words .entry)) n) (total / negligible) depth 0 ⌝ }
 {
+    let most = total / bounds::NEGLIGIBLE;
+    let mut rest: u64 = 0;
     let mut k = depth;
     while 0 < k {
-        if words[8 * n + k] != 0 {
+        rest += words[8 * n + k];
+        if most < rest {
             return k;
         }
         k -= 1;
@@ -129,18 +134,18 @@ pub fn high_reading(
 
 // What values of 0 would leave to be summed, one number for all states: each step's weight times 1 less what a value can lack there, which
 // is `error` at step 0 and a unit more at each later step; and less 1 for each step's rounding.
-pub fn gatherable(words: &[u64], n: usize, depth: usize, error: u64) -> u64
-    requires { ⌜ GatherAsked (now words) n depth error ⌝ }
-    ensures { λ r. ⌜ r ≡ wholeOf (now (words .entry)) n depth error ⌝ }
+pub fn gatherable(words: &[u64], n: usize, last: usize, error: u64) -> u64
+    requires { ⌜ GatherAsked (now words) n last error ⌝ }
+    ensures { λ r. ⌜ r ≡ wholeOf (now (words .entry)) n last error ⌝ }
 {
     let mut g: u64 = 0;
     let mut k: usize = 0;
-    while k <= depth {
+    while k <= last {
         let most = less(bounds::ONE, error + (k as u64));
         g = weights::added(g, words[8 * n + k], most);
         k += 1;
     }
-    less(g, (depth as u64) + 1)
+    less(g, (last as u64) + 1)
 }
 
 // The lower end of each state, from the sums and the total of the weights.
@@ -197,11 +202,11 @@ pub fn summed(
     ensures { λ _. ⌜ Summed (now (moves .entry)) (now (first .entry)) (now (second .entry)) n q a depth (now (words .entry)) (now (words .exit)) ⌝ }
 {
     let total = weigh(words, n, a, depth);
-    let last = last_weighed(words, n, depth);
+    let last = last_step(words, n, depth, total);
     reading(moves, words, first, second, n, q, last, false);
     lower_ends(words, first, second, n, total);
     high_reading(moves, words, first, second, n, q, last);
-    let whole = gatherable(words, n, depth, 0);
+    let whole = gatherable(words, n, last, 0);
     upper_ends(words, first, second, n, total, whole);
 }
 

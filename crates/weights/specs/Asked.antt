@@ -1,7 +1,7 @@
 -- What the functions of the weights ask. The load is a / b, its whole part m, the depth d. Assumes nothing.
 use mathlib.Core.Path.{_≡_}
 use mathlib.Core.List.{List}
-use Prim.Native.Nat.{ℕ, _+_, _*_, _/_, _^_, _≤_, _<_}
+use Prim.Native.Nat.{ℕ, _+_, _*_, _^_, _≤_, _<_}
 use lib.ListN.{length, getD}
 use Rattle.bounds.specs.Weight.{peak, Middle, low, apart}
 use Rattle.bounds.specs.Unit.{one, scale, part}

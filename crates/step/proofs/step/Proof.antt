@@ -1,5 +1,5 @@
 -- `step` meets its contract. Assumes nothing.
-use Prim.Native.Nat.{_-_, _+_}
+use Prim.Native.Nat.{_-_}
 use borrow.Author.Needs.{needs}
 use Rattle.step.proofs.StepLaw.{Inv, step-laws}
 use Rattle.step.proofs.step.Statement.{statement}

@@ -1,5 +1,5 @@
 -- `advance` meets its contract. Assumes nothing.
-use Prim.Native.Nat.{_-_, _+_}
+use Prim.Native.Nat.{_-_}
 use borrow.Author.Needs.{needs}
 use Rattle.sums.proofs.AdvanceLaw.{Inv, advance-laws}
 use Rattle.sums.proofs.advance.Statement.{statement}

@@ -1,5 +1,5 @@
 -- `begin` meets its contract. Assumes nothing.
-use Prim.Native.Nat.{_-_, _+_}
+use Prim.Native.Nat.{_-_}
 use borrow.Author.Needs.{needs}
 use native.Mathlib.Omega.{arith}
 use Rattle.sums.proofs.BeginLaw.{Inv, begin-laws, turn}

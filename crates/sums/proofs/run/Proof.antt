@@ -1,5 +1,5 @@
 -- `run` meets its contract. Assumes nothing.
-use Prim.Native.Nat.{_-_, _+_}
+use Prim.Native.Nat.{_-_}
 use borrow.Author.Needs.{needs}
 use Rattle.sums.proofs.RunLaw.{Inv, run-laws}
 use Rattle.sums.proofs.run.Statement.{statement}

@@ -1,5 +1,5 @@
 -- `decided` meets its contract. Assumes nothing.
-use Prim.Native.Nat.{_-_, _+_}
+use Prim.Native.Nat.{_-_}
 use borrow.Author.Needs.{needs}
 use Rattle.until.proofs.DecidedLaw.{Inv, decided-laws}
 use Rattle.until.proofs.decided.Statement.{statement}

@@ -1,5 +1,5 @@
 -- `lower_ends` meets its contract. Assumes nothing.
-use Prim.Native.Nat.{_-_, _+_}
+use Prim.Native.Nat.{_-_}
 use borrow.Author.Needs.{needs}
 use Rattle.until.proofs.LowerLaw.{Inv, lower-laws}
 use Rattle.until.proofs.lower_ends.Statement.{statement}

@@ -7,8 +7,8 @@ use Rattle.until.proofs.summed.Tie as tie
 weigh-requires : tie.Need-weigh-requires
 weigh-requires c κs = search needs
 
-last-weighed-requires : tie.Need-last-weighed-requires
-last-weighed-requires c κs = search needs
+last-step-requires : tie.Need-last-step-requires
+last-step-requires c κs = search (needs, summed-laws)
 
 reading-requires : tie.Need-reading-requires
 reading-requires c κs = search (needs, summed-laws)
@@ -19,7 +19,7 @@ lower-ends-requires c κs =
     let looked = read .before .before in
     let weighed = looked .before .before .before .before in
     let entry = weighed .before .before .before .before .before .before in
-    may-lower (entry .pre) (weighed .weigh .ensures) (looked .last-weighed .ensures) (read .reading .ensures)
+    may-lower (entry .pre) (weighed .weigh .ensures) (looked .last-step .ensures) (read .reading .ensures)
 
 high-reading-requires : tie.Need-high-reading-requires
 high-reading-requires c κs =
@@ -28,7 +28,7 @@ high-reading-requires c κs =
     let looked = read .before .before in
     let weighed = looked .before .before .before .before in
     let entry = weighed .before .before .before .before .before .before in
-    may-high (entry .pre) (weighed .weigh .ensures) (looked .last-weighed .ensures) (read .reading .ensures) (lowered .lower-ends .ensures)
+    may-high (entry .pre) (weighed .weigh .ensures) (looked .last-step .ensures) (read .reading .ensures) (lowered .lower-ends .ensures)
 
 gatherable-requires : tie.Need-gatherable-requires
 gatherable-requires c κs =
@@ -38,7 +38,7 @@ gatherable-requires c κs =
     let looked = read .before .before in
     let weighed = looked .before .before .before .before in
     let entry = weighed .before .before .before .before .before .before in
-    may-gather (entry .pre) (weighed .weigh .ensures) (looked .last-weighed .ensures) (read .reading .ensures) (lowered .lower-ends .ensures) (high .high-reading .ensures)
+    may-gather (entry .pre) (weighed .weigh .ensures) (looked .last-step .ensures) (read .reading .ensures) (lowered .lower-ends .ensures) (high .high-reading .ensures)
 
 upper-ends-requires : tie.Need-upper-ends-requires
 upper-ends-requires c κs =
@@ -49,7 +49,7 @@ upper-ends-requires c κs =
     let looked = read .before .before in
     let weighed = looked .before .before .before .before in
     let entry = weighed .before .before .before .before .before .before in
-    may-upper (entry .pre) (weighed .weigh .ensures) (looked .last-weighed .ensures) (read .reading .ensures) (lowered .lower-ends .ensures) (high .high-reading .ensures) (gathered .gatherable .ensures)
+    may-upper (entry .pre) (weighed .weigh .ensures) (looked .last-step .ensures) (read .reading .ensures) (lowered .lower-ends .ensures) (high .high-reading .ensures) (gathered .gatherable .ensures)
 
 same-length : tie.Need-same-length
 same-length c = search needs
@@ -64,14 +64,14 @@ returns c =
     let looked = read .before .before in
     let weighed = looked .before .before .before .before in
     let entry = weighed .before .before .before .before .before .before in
-    is-summed (entry .pre) (weighed .weigh .ensures) (looked .last-weighed .ensures) (read .reading .ensures) (lowered .lower-ends .ensures) (high .high-reading .ensures) (gathered .gatherable .ensures) (upper .upper-ends .ensures)
+    is-summed (entry .pre) (weighed .weigh .ensures) (looked .last-step .ensures) (read .reading .ensures) (lowered .lower-ends .ensures) (high .high-reading .ensures) (gathered .gatherable .ensures) (upper .upper-ends .ensures)
 
 pub summed-spec : {M : Type 1} → statement M
 summed-spec =
     tie.close
     (tie.spec
     weigh-requires
-    last-weighed-requires
+    last-step-requires
     reading-requires
     lower-ends-requires
     high-reading-requires

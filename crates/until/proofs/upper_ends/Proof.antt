@@ -1,5 +1,5 @@
 -- `upper_ends` meets its contract. Assumes nothing.
-use Prim.Native.Nat.{_-_, _+_}
+use Prim.Native.Nat.{_-_}
 use borrow.Author.Needs.{needs}
 use Rattle.until.proofs.UpperLaw.{Inv, upper-laws}
 use Rattle.until.proofs.upper_ends.Statement.{statement}
