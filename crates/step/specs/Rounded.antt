@@ -1,25 +1,22 @@
--- The values that the code works out are the rounded step values of the chain that the words show: a value that is held starts as what it
--- is held at. Assumes nothing.
+-- The values that the code works out are rounded step values of a phase of the chain that the words show: a value that is held starts as
+-- what it is held at. Assumes nothing.
 use mathlib.Core.Path.{_≡_, refl, _∙_}
 use mathlib.Core.Bool.{Bool, true, false, cond, _||_}
 use mathlib.Core.List.{List}
-use Prim.Native.Nat.{ℕ, zero, suc, _*_, _<_}
+use Prim.Native.Nat.{ℕ, zero, suc, _+_, _*_, _/_, _≤_, _<_}
 use native.Mathlib.Omega.{arith}
-use Rattle.csl.specs.Chain.{Chain}
-use Rattle.csl.specs.Phase.{Phase, untilPhase}
+use Rattle.csl.specs.Chain.{Chain, topRate}
+use Rattle.csl.specs.Phase.{Phase, moved, untilPhase}
 use Rattle.bounds.specs.Unit.{one}
-use Rattle.bounds.specs.Values.{settled, Rounds}
+use Rattle.bounds.specs.Values.{settled, Rounds, Runs}
 use Rattle.rows.specs.Words.{topOf}
 use Rattle.rows.specs.Shown.{Shows, top-shown, moved-shown}
 use Rattle.step.specs.Value.{verdicts, readAs, readPhase, heldOf, mixed, next, runOf, startOf, valueOf}
 
--- a phase whose held states start as they are held
-record StartsHeld (ph : Phase) : Type 0 where
-  pub ones : (s : ℕ) → ph .one s ≡ true → ph .start s ≡ 1
-  pub nils : (s : ℕ) → ph .one s ≡ false → ph .nil s ≡ true → ph .start s ≡ 0
-
-until-held : (a b : ℕ → Bool) → StartsHeld (untilPhase a b)
-until-held a b = record { ones = λ s e. rw e refl; nils = λ s e f. rw e refl }
+-- values of step 0 that are 1 and 0 where a phase of n states holds them so
+pub record StartsHeld (n : ℕ) (ph : Phase) (start : ℕ → ℕ) : Type 0 where
+  pub ones : (s : ℕ) → s < n → ph .one s ≡ true → start s ≡ one
+  pub nils : (s : ℕ) → s < n → ph .one s ≡ false → ph .nil s ≡ true → start s ≡ 0
 
 module _ (mv : List ℕ) (m q : ℕ) (start : ℕ → ℕ) (held : ℕ → Bool) where
   held-value : (k s : ℕ) → held s ≡ true → runOf mv m q start held k s ≡ start s
@@ -28,26 +25,45 @@ module _ (mv : List ℕ) (m q : ℕ) (start : ℕ → ℕ) (held : ℕ → Bool)
   held-value (suc k) s e = rw e (held-value k s e)
 
 -- which rule a later step follows
-step-settled : (o z : Bool) (x y start : ℕ) → (o ≡ true → start ≡ 1) → (o ≡ false → z ≡ true → start ≡ 0)
-    → ((o || z) ≡ true → x ≡ one * start) → cond (o || z) x y ≡ settled o z y
-step-settled true z x y start h k e = e refl ∙ rw (h refl) refl
-step-settled false true x y start h k e = e refl ∙ rw (k refl refl) refl
+step-settled : (o z : Bool) (x y start : ℕ) → (o ≡ true → start ≡ one) → (o ≡ false → z ≡ true → start ≡ 0)
+    → ((o || z) ≡ true → x ≡ start) → cond (o || z) x y ≡ settled o z y
+step-settled true z x y start h k e = e refl ∙ h refl
+step-settled false true x y start h k e = e refl ∙ k refl refl
 step-settled false false x y start h k e = refl
 
-rounds : {c : Chain} {mv : List ℕ} {m n : ℕ} {ph : Phase} → StartsHeld ph → Shows c mv m n
-    → Rounds c ph (valueOf mv m (topOf mv m n) ph)
-unfolding runOf next mixed
-rounds {c} {mv} {m} {n} {ph} i p =
-    record {
-      start = λ s h. refl;
-      next = λ k s h.
-          let l : s < n = omega (arith, p .states) in
-          rw (moved-shown p (valueOf mv m (topOf mv m n) ph k) s l, top-shown p)
-          (step-settled (ph .one s) (ph .nil s) (valueOf mv m (topOf mv m n) ph k s) _ (ph .start s) (i .ones s) (i .nils s)
-          (held-value mv m (topOf mv m n) (startOf ph) (heldOf ph) k s));
-    }
+module _ {c : Chain} {mv : List ℕ} {m n : ℕ} {ph : Phase} {start : ℕ → ℕ} {held : ℕ → Bool} (p : Shows c mv m n)
+    (h : (s : ℕ) → s < n → held s ≡ heldOf ph s) (i : StartsHeld n ph start) where
+  run-next : (k s : ℕ) → s < c .states
+      → runOf mv m (topOf mv m n) start held (suc k) s
+      ≡ settled (ph .one s) (ph .nil s) (moved c (runOf mv m (topOf mv m n) start held k) s / topRate c)
+  unfolding runOf next mixed
+  run-next k s b =
+      let l : s < n = omega (arith, p .states) in
+      rw (moved-shown p (runOf mv m (topOf mv m n) start held k) s l, top-shown p, h s l)
+      (step-settled (ph .one s) (ph .nil s) (runOf mv m (topOf mv m n) start held k s) _ (start s) (i .ones s l) (i .nils s l)
+      (λ e. held-value mv m (topOf mv m n) start held k s (h s l ∙ e)))
 
--- so of an until, whichever way undecided operand states are read
+  -- a start that lies at most e units below that of the phase
+  pub runs : {e : ℕ} → ((s : ℕ) → s < n → start s * ph .whole ≤ one * ph .start s)
+      → ((s : ℕ) → s < n → one * ph .start s ≤ (start s + e) * ph .whole) → Runs c ph e (runOf mv m (topOf mv m n) start held)
+  unfolding runOf
+  runs below near =
+      record {
+        below = λ s b. below s (omega (arith, p .states));
+        near = λ s b. near s (omega (arith, p .states));
+        next = run-next;
+      }
+
+-- until starts as it holds
+until-held : (n : ℕ) (a b : ℕ → Bool) → StartsHeld n (untilPhase a b) (startOf (untilPhase a b))
+until-held n a b = record { ones = λ s l e. rw e refl; nils = λ s l e f. rw e refl }
+
+-- so its values are exact at step 0, whichever way undecided operand states are read
 pub reading-rounds : {c : Chain} {mv : List ℕ} {m n : ℕ} (b : Bool) (first second : List ℕ) → Shows c mv m n
     → Rounds c (readPhase b first second) (valueOf mv m (topOf mv m n) (readPhase b first second))
-reading-rounds b first second p = rounds (until-held (λ s. readAs b (verdicts first s)) (λ s. readAs b (verdicts second s))) p
+unfolding runOf
+reading-rounds {n = n} b first second p =
+    record {
+      start = λ s l. refl;
+      next = run-next p (λ s l. refl) (until-held n (λ s. readAs b (verdicts first s)) (λ s. readAs b (verdicts second s)));
+    }

@@ -16,16 +16,16 @@ use Rattle.step.specs.Bound.{run-most, next-cong}
 use Rattle.step.specs.Asked.{Sheet, StepAsked, Stepped}
 use Rattle.sums.specs.Asked.{sumsAt, AdvanceAsked, Advanced, RunAsked, runAt, sumOf, Ran}
 
-pub record Inv (mv l₀ l : List ℕ) (n q depth k : ℕ) : Type 0 where
-  pub asked : RunAsked mv l₀ n q depth
-  pub within : k ≤ depth
+pub record Inv (mv l₀ l : List ℕ) (n q last k : ℕ) : Type 0 where
+  pub asked : RunAsked mv l₀ n q last
+  pub within : k ≤ last
   pub same : length l ≡ length l₀
   pub values : (s : ℕ) → s < n → nextAt l n s ≡ runAt mv l₀ n q k s
   pub sums : (s : ℕ) → s < n → sumsAt l n s ≡ sumOf mv l₀ n q s k
   pub before : (i : ℕ) → i < 2 * n → at l i ≡ at l₀ i
   pub after : (i : ℕ) → 5 * n ≤ i → at l i ≡ at l₀ i
 
-pub start : {mv l : List ℕ} {n q depth : ℕ} → RunAsked mv l n q depth → Inv mv l l n q depth 0
+pub start : {mv l : List ℕ} {n q last : ℕ} → RunAsked mv l n q last → Inv mv l l n q last 0
 unfolding runOf
 start p =
     record {
@@ -38,7 +38,7 @@ start p =
       after = λ i h. refl;
     }
 
-module _ {mv l₀ l : List ℕ} {n q depth k : ℕ} (v : Inv mv l₀ l n q depth k) where
+module _ {mv l₀ l : List ℕ} {n q last k : ℕ} (v : Inv mv l₀ l n q last k) where
   sheet : Sheet mv l₀ n q
   sheet = v .asked .sheet
 
@@ -100,7 +100,7 @@ module _ {mv l₀ l : List ℕ} {n q depth k : ℕ} (v : Inv mv l₀ l n q depth
         ∙ rw (weight-is, v .values s b, v .sums s b) refl
         ∙ sym (sum-next (λ i. part (at l₀ (8 * n + i)) (runAt mv l₀ n q i s)) k)
 
-    pub finish : k ≡ depth → Ran mv n q depth l₀ l'
+    pub finish : k ≡ last → Ran mv n q last l₀ l'
     finish e =
         record {
           same = a .same ∙ v .same;
@@ -128,7 +128,7 @@ module _ {mv l₀ l : List ℕ} {n q depth k : ℕ} (v : Inv mv l₀ l n q depth
           stays = λ s b e. stays-kept s ∙ v .asked .stays s b (rw (stays-kept s) at e);
         }
 
-    module _ (h : k ≡ depth → ⊥) {l'' : List ℕ} (u : Stepped mv n q l' l'') where
+    module _ (h : k ≡ last → ⊥) {l'' : List ℕ} (u : Stepped mv n q l' l'') where
       value-next : (s : ℕ) → s < n → nextAt l'' n s ≡ runAt mv l₀ n q (suc k) s
       unfolding runOf
       value-next s b =
@@ -136,7 +136,7 @@ module _ {mv l₀ l : List ℕ} {n q depth k : ℕ} (v : Inv mv l₀ l n q depth
           ∙ next-cong mv (length mv) n q (sheet .lines .targets) (heldAt l' n q) (heldAt l₀ n q) (valuesAt l' n) (runAt mv l₀ n q k)
           (λ g c. ap (ltb q) (stays-kept g)) now-is s b
 
-      pub turn : Inv mv l₀ l'' n q depth (k + 1)
+      pub turn : Inv mv l₀ l'' n q last (k + 1)
       turn =
           record {
             asked = v .asked;

@@ -55,14 +55,14 @@ pub record Advanced (n w : ℕ) (l₀ l : List ℕ) : Type 0 where
   pub after : (k : ℕ) → 5 * n ≤ k → at l k ≡ at l₀ k
 
 -- what is asked of the start of a run: values of step 0, empty sums, what stays put, weights
-pub record RunAsked (mv l : List ℕ) (n q depth : ℕ) : Type 0 where
+pub record RunAsked (mv l : List ℕ) (n q last : ℕ) : Type 0 where
   pub sheet : Sheet mv l n q
   pub values : (s : ℕ) → s < n → nextAt l n s ≤ one
   pub sums : (s : ℕ) → s < n → sumsAt l n s ≡ 0
   pub stays : (s : ℕ) → s < n → heldAt l n q s ≡ false → at l (5 * n + s) ≡ q - exitOf mv (length mv) s
-  pub room : 8 * n + depth < length l
-  pub limit : depth < 1024
-  pub weights : (k : ℕ) → k ≤ depth → at l (8 * n + k) ≤ peak
+  pub room : 8 * n + last < length l
+  pub limit : last < 1024
+  pub weights : (k : ℕ) → k ≤ last → at l (8 * n + k) ≤ peak
 
 -- the value of state s at step k of a run from the words of a list; the sum over the first k steps of weight times value
 abbrev pub runAt : (mv l : List ℕ) (n q : ℕ) → ℕ → ℕ → ℕ
@@ -72,8 +72,8 @@ abbrev pub sumOf : (mv l : List ℕ) (n q : ℕ) → ℕ → ℕ → ℕ
 sumOf mv l n q s k = sumTo (λ i. part (at l (8 * n + i)) (runAt mv l n q i s)) k
 
 -- only the words 2 * n to 5 * n are changed
-pub record Ran (mv : List ℕ) (n q depth : ℕ) (l₀ l : List ℕ) : Type 0 where
+pub record Ran (mv : List ℕ) (n q last : ℕ) (l₀ l : List ℕ) : Type 0 where
   pub same : length l ≡ length l₀
-  pub sums : (s : ℕ) → s < n → sumsAt l n s ≡ sumOf mv l₀ n q s (depth + 1)
+  pub sums : (s : ℕ) → s < n → sumsAt l n s ≡ sumOf mv l₀ n q s (last + 1)
   pub before : (k : ℕ) → k < 2 * n → at l k ≡ at l₀ k
   pub after : (k : ℕ) → 5 * n ≤ k → at l k ≡ at l₀ k

@@ -55,11 +55,11 @@ pub fn begin(words: &mut [u64], first: &[u8], second: &[u8], n: usize, q: u64, a
 {
     let mut s: usize = 0;
     while s < n {
-        let one = holds(first[s], as_yes);
-        let other = holds(second[s], as_yes);
-        words[3 * n + s] = first_value(other);
+        let by_first = holds(first[s], as_yes);
+        let by_second = holds(second[s], as_yes);
+        words[3 * n + s] = first_value(by_second);
         words[4 * n + s] = 0;
-        words[5 * n + s] = stays(is_held(one, other), q, words[6 * n + s]);
+        words[5 * n + s] = stays(is_held(by_first, by_second), q, words[6 * n + s]);
         s += 1;
     }
 }
@@ -78,16 +78,16 @@ pub fn advance(words: &mut [u64], n: usize, w: u64)
     }
 }
 
-// The sums over steps 0 to depth of weight times value.
-pub fn run(moves: &[u64], words: &mut [u64], n: usize, q: u64, depth: usize)
-    requires { ⌜ RunAsked (now moves) (now words) n q depth ⌝ }
-    ensures { λ _. ⌜ Ran (now (moves .entry)) n q depth (now (words .entry)) (now (words .exit)) ⌝ }
+// The sums over steps 0 to last of weight times value.
+pub fn run(moves: &[u64], words: &mut [u64], n: usize, q: u64, last: usize)
+    requires { ⌜ RunAsked (now moves) (now words) n q last ⌝ }
+    ensures { λ _. ⌜ Ran (now (moves .entry)) n q last (now (words .entry)) (now (words .exit)) ⌝ }
 {
     let mut k: usize = 0;
     loop {
         let w = words[8 * n + k];
         advance(words, n, w);
-        if k == depth {
+        if k == last {
             return;
         }
         step::step(moves, words, n, q);

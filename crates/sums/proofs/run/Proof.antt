@@ -6,10 +6,10 @@ use Rattle.sums.proofs.run.Statement.{statement}
 use Rattle.sums.proofs.run.Tie as tie
 
 abbrev Inv-loop : tie.InvT-loop
-Inv-loop moves words₀ n q depth k₀ words k = Inv moves words₀ words n q depth k
+Inv-loop moves words₀ n q last k₀ words k = Inv moves words₀ words n q last k
 
 abbrev μ-loop : tie.MeasureT-loop
-μ-loop moves words₀ n q depth k₀ words k = depth - k
+μ-loop moves words₀ n q last k₀ words k = last - k
 
 loop-holds : tie.Need-loop-holds Inv-loop μ-loop
 loop-holds c = search (needs, run-laws)
