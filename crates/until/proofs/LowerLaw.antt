@@ -27,9 +27,9 @@ pub start : {l first second : List ℕ} {n total : ℕ} → LowerAsked l first s
 start p =
     record { asked = p; within = omega arith; same = refl; ends = λ g h. absurd (omega arith); after = λ k h. refl }
 
--- a sum of values of at most one is at most the total times one
-over : (x total : ℕ) → 0 < total → total < 2 ^ 52 → x * grain ≤ total * one → Over x total
-over x total p d h = record { some = p; divisor = d; fits = omega arith }
+-- what is at most a sum of values of at most one is at most the total times one
+pub over : (x y total : ℕ) → 0 < total → total < 2 ^ 52 → y * grain ≤ total * one → x ≤ y → Over x total
+over x y total p d h k = record { some = p; divisor = d; fits = omega arith }
 
 module _ {l₀ l first second : List ℕ} {n total s : ℕ} (v : Inv l₀ l first second n total s) (h : s < n) where
   pub in-first : s < length first
@@ -57,7 +57,7 @@ module _ {l₀ l first second : List ℕ} {n total s : ℕ} (v : Inv l₀ l firs
   sum-is = v .after (4 * n + s) (omega arith)
 
   pub may-over : Over (at l (4 * n + s)) total
-  may-over = rw sum-is (over _ total (v .asked .some) (v .asked .divisor) (v .asked .sums s h))
+  may-over = rw sum-is (over _ _ total (v .asked .some) (v .asked .divisor) (v .asked .sums s h) (omega arith))
 
   pub turn : (r x : ℕ) → r ≡ at l (4 * n + s) * scale / total → x ≡ pointed (verdictAt (at first s)) (verdictAt (at second s)) r
       → Inv l₀ (set l s x) first second n total (s + 1)

@@ -4,10 +4,11 @@ use mathlib.Core.Bool.{Bool, true, false, cond, _&&_, true≢false}
 use Prim.Native.Nat.{ℕ}
 use lib.Dec.{eqb}
 use borrow.Author.Tests.{ne-eqb}
+use Rattle.csl.specs.Limits.{billion}
 use Rattle.csl.specs.Verdicts.{No, Yes, Undecided}
 use Rattle.bounds.specs.Values.{pointed, verdictAt}
 
-pub certain : (f g x : ℕ) → g ≡ 1 → 1000000000 ≡ pointed (verdictAt f) (verdictAt g) x
+pub certain : (f g x : ℕ) → g ≡ 1 → billion ≡ pointed (verdictAt f) (verdictAt g) x
 certain f g x e = rw e refl
 
 pub impossible : (f g x : ℕ) (b : Bool) → b ≡ (eqb f 0 && eqb g 0) → b ≡ true → 0 ≡ pointed (verdictAt f) (verdictAt g) x

@@ -53,7 +53,7 @@ module _ {l₀ l second : List ℕ} {n s : ℕ} (v : Inv l₀ l second n s) (h :
   others : (x y k : ℕ) → (k ≡ s → ⊥) → (k ≡ n + s → ⊥) → at (set (set l s x) (n + s) y) k ≡ at l k
   others x y k a b = getD-set-other (set l s x) (n + s) k y 0 b ∙ getD-set-other l s k x 0 a
 
-  pub turn : (x y : ℕ) → x ≡ cond (eqb (at second s) 1) 1000000000 0 → y ≡ cond (eqb (at second s) 0) 0 1000000000
+  pub turn : (x y : ℕ) → x ≡ cond (eqb (at second s) 1) billion 0 → y ≡ cond (eqb (at second s) 0) 0 billion
       → Inv l₀ (set (set l s x) (n + s) y) second n (s + 1)
   turn x y e f =
       record {

@@ -1,12 +1,11 @@
 -- Weights, readings and ends, one after the other. Assumes nothing.
-use mathlib.Core.Path.{_≡_, refl, ap, _∙_}
+use mathlib.Core.Path.{_≡_, refl, _∙_}
 use mathlib.Core.Bool.{Bool, true, false}
 use mathlib.Core.List.{List}
-use Prim.Native.Nat.{ℕ, suc, _+_, _*_, _-_, _/_, _≤_, _<_}
+use Prim.Native.Nat.{ℕ, _+_, _*_, _/_, _^_, _≤_, _<_}
 use native.Mathlib.Omega.{arith}
-use native.Mathlib.Numerals.{add-one}
 use lib.ListN.{length}
-use Rattle.csl.specs.Phase.{Phase}
+use Rattle.csl.specs.Limits.{rateHours}
 use Rattle.numbers.specs.Hint.{mul-bound}
 use Rattle.numbers.specs.Sum.{sum-cong}
 use Rattle.bounds.specs.Weight.{peak, low, Middle, low-most}
@@ -19,13 +18,14 @@ use Rattle.step.specs.Value.{verdicts, readAs, readPhase, lowPhase, highPhase, 
 use Rattle.step.specs.Bound.{bit-most, run-most}
 use Rattle.step.specs.Asked.{Sheet}
 use Rattle.sums.specs.Asked.{sumsAt}
-use Rattle.until.specs.Asked.{WeighAsked, Weighed, LastAsked, weightsAt, phaseSum, ReadAsked, Read, HighAsked, GatherAsked, wholeOf, LowerAsked, Lowered, UpperAsked, Uppered, SummedAsked, Summed}
+use Rattle.until.specs.Sums.{sum-gathered, whole-gatherable}
+use Rattle.until.specs.Asked.{WeighAsked, Weighed, LastAsked, weightsAt, ReadAsked, Read, HighAsked, GatherAsked, wholeOf, LowerAsked, Lowered, UpperAsked, Uppered, SummedAsked, Summed}
 
 module _ {mv l first second : List ℕ} {n q a depth : ℕ} (p : SummedAsked mv l first second n q a depth) where
-  middle : Middle a 1000000 (a / 1000000)
+  middle : Middle a rateHours (a / rateHours)
   middle = record { some = p .weigh .some; unit = omega arith; reached = omega arith; last = omega arith }
 
-  deep : a / 1000000 ≤ depth
+  deep : a / rateHours ≤ depth
   deep = omega (arith, p .weigh .deep)
 
   limit : depth < 1024
@@ -38,7 +38,7 @@ module _ {mv l first second : List ℕ} {n q a depth : ℕ} (p : SummedAsked mv 
   record Kept (x : List ℕ) : Type 0 where
     pub same : length x ≡ length l
     pub rows : (k : ℕ) → 6 * n ≤ k → k < 8 * n → at x k ≡ at l k
-    pub weights : (k : ℕ) → k ≤ depth → at x (8 * n + k) ≡ low a 1000000 (a / 1000000) k
+    pub weights : (k : ℕ) → k ≤ depth → at x (8 * n + k) ≡ low a rateHours (a / rateHours) k
     pub beyond : (k : ℕ) → 8 * n + depth < k → at x k ≡ at l k
 
   -- one more change before 6 * n
@@ -82,10 +82,10 @@ module _ {mv l first second : List ℕ} {n q a depth : ℕ} (p : SummedAsked mv 
     look-kept =
         record { states = p .weigh .states; limit = limit; room = omega (arith, c .same, p .weigh .room); weights = light }
 
-    last-is : lastFrom (weightsAt x n) (total a 1000000 (a / 1000000) depth / negligible) depth 0 ≡ lastStep a 1000000 (a / 1000000) depth
+    last-is : lastFrom (weightsAt x n) (total a rateHours (a / rateHours) depth / negligible) depth 0 ≡ lastStep a rateHours (a / rateHours) depth
     unfolding lastStep
     last-is =
-        last-same (weightsAt x n) (low a 1000000 (a / 1000000)) (total a 1000000 (a / 1000000) depth / negligible) depth (c .weights) depth 0
+        last-same (weightsAt x n) (low a rateHours (a / rateHours)) (total a rateHours (a / rateHours) depth / negligible) depth (c .weights) depth 0
         (omega arith)
 
     gather-kept : (last : ℕ) → last ≤ depth → GatherAsked x n last 0
@@ -98,35 +98,22 @@ module _ {mv l first second : List ℕ} {n q a depth : ℕ} (p : SummedAsked mv 
           weights = λ k b. light k (omega arith);
         }
 
-    whole-is : (last : ℕ) → last ≤ depth → wholeOf x n last 0 ≡ gatherable a 1000000 (a / 1000000) last 0
-    unfolding gatherable
-    whole-is last h =
-        rw add-one
-        (ap (λ (t : ℕ). t - suc last)
-        (sum-cong (λ k. part (at x (8 * n + k)) (one - (0 + k))) (λ k. part (low a 1000000 (a / 1000000) k) (one - (0 + k))) (suc last)
-        (λ k b. rw (c .weights k (omega arith)) refl)))
+    -- the weights through a step up to the depth
+    through : (last : ℕ) → last ≤ depth → (k : ℕ) → k ≤ last → weightsAt x n k ≡ low a rateHours (a / rateHours) k
+    through last h k b = c .weights k (omega arith)
 
-    sum-is : (ph : Phase) (s last : ℕ) → last ≤ depth
-        → phaseSum mv x n q last ph s ≡ gathered a 1000000 (a / 1000000) last (λ k. valueOf mv (length mv) q ph k s)
-    unfolding gathered
-    sum-is ph s last h =
-        rw add-one
-        (sum-cong (λ k. part (at x (8 * n + k)) (valueOf mv (length mv) q ph k s))
-        (λ k. part (low a 1000000 (a / 1000000) k) (valueOf mv (length mv) q ph k s)) (suc last)
-        (λ k b. rw (c .weights k (omega arith)) refl))
-
-  total-small : total a 1000000 (a / 1000000) depth < 4503599627370496
+  total-small : total a rateHours (a / rateHours) depth < 2 ^ 52
   total-small =
       let y : depth + 2 ≤ 1026 = omega (arith, limit) in
-      let z : peak + depth ≤ 1099511628800 = omega (arith, limit) in
-      omega (arith, total-most a 1000000 (a / 1000000) depth middle deep, mul-bound y z)
+      let z : peak + depth ≤ peak + 1024 = omega (arith, limit) in
+      omega (arith, total-most a rateHours (a / rateHours) depth middle deep, mul-bound y z)
 
   gathered-small : (b : Bool) (s : ℕ) → s < n
-      → gathered a 1000000 (a / 1000000) (lastStep a 1000000 (a / 1000000) depth)
+      → gathered a rateHours (a / rateHours) (lastStep a rateHours (a / rateHours) depth)
       (λ k. valueOf mv (length mv) q (readPhase b first second) k s) * grain
-      ≤ total a 1000000 (a / 1000000) depth * one
+      ≤ total a rateHours (a / rateHours) depth * one
   gathered-small b s h =
-      gathered-most a 1000000 (a / 1000000) depth (λ k. valueOf mv (length mv) q (readPhase b first second) k s)
+      gathered-most a rateHours (a / rateHours) depth (λ k. valueOf mv (length mv) q (readPhase b first second) k s)
       (λ k c. run-most mv (length mv) n q (p .sheet .lines .targets) (startOf (readPhase b first second)) (heldOf (readPhase b first second))
       (λ t e. omega (arith, bit-most (readAs b (verdicts second t)))) (p .sheet .slow) k s h)
 
@@ -138,11 +125,11 @@ module _ {mv l first second : List ℕ} {n q a depth : ℕ} (p : SummedAsked mv 
     may-look = look-kept kept-weighed
 
     module _ {last : ℕ} (z : last ≡ lastFrom (weightsAt w n) (r / negligible) depth 0) where
-      made : last ≡ lastStep a 1000000 (a / 1000000) depth
+      made : last ≡ lastStep a rateHours (a / rateHours) depth
       made = z ∙ rw (u .all) (last-is kept-weighed)
 
       within : last ≤ depth
-      within = rw made (last-step-within a 1000000 (a / 1000000) depth)
+      within = rw made (last-step-within a rateHours (a / rateHours) depth)
 
       pub may-read : ReadAsked mv w first second n q last
       may-read = read-kept kept-weighed last within
@@ -152,8 +139,8 @@ module _ {mv l first second : List ℕ} {n q a depth : ℕ} (p : SummedAsked mv 
         kept-read = kept-on kept-weighed (i .same) (i .after)
 
         low-sum : (s : ℕ) → s < n → sumsAt b n s
-            ≡ gathered a 1000000 (a / 1000000) (lastStep a 1000000 (a / 1000000) depth) (λ k. valueOf mv (length mv) q (lowPhase first second) k s)
-        low-sum s h = rw (← made) (i .sums s h ∙ sum-is kept-weighed (lowPhase first second) s last within)
+            ≡ gathered a rateHours (a / rateHours) (lastStep a rateHours (a / rateHours) depth) (λ k. valueOf mv (length mv) q (lowPhase first second) k s)
+        low-sum s h = rw (← made) (i .sums s h ∙ sum-gathered w n a last (through kept-weighed last within) _)
 
         pub may-lower : LowerAsked b first second n r
         may-lower =
@@ -162,7 +149,7 @@ module _ {mv l first second : List ℕ} {n q a depth : ℕ} (p : SummedAsked mv 
               room = omega (arith, kept-read .same, p .sheet .room);
               in-first = p .in-first;
               in-second = p .in-second;
-              some = omega (arith, u .all, total-peak a 1000000 (a / 1000000) depth deep);
+              some = omega (arith, u .all, total-peak a rateHours (a / rateHours) depth deep);
               divisor = omega (arith, u .all, total-small);
               sums = λ s h. rw (low-sum s h, u .all) (gathered-small false s h);
             }
@@ -189,15 +176,15 @@ module _ {mv l first second : List ℕ} {n q a depth : ℕ} (p : SummedAsked mv 
             kept-high = kept-on kept-lower (j .same) (j .after)
 
             high-sum : (s : ℕ) → s < n → sumsAt y n s
-                ≡ gathered a 1000000 (a / 1000000) (lastStep a 1000000 (a / 1000000) depth) (λ k. valueOf mv (length mv) q (highPhase first second) k s)
-            high-sum s h = rw (← made) (j .sums s h ∙ sum-is kept-lower (highPhase first second) s last within)
+                ≡ gathered a rateHours (a / rateHours) (lastStep a rateHours (a / rateHours) depth) (λ k. valueOf mv (length mv) q (highPhase first second) k s)
+            high-sum s h = rw (← made) (j .sums s h ∙ sum-gathered x n a last (through kept-lower last within) _)
 
             pub may-gather : GatherAsked y n last 0
             may-gather = gather-kept kept-high last within
 
             module _ {g : ℕ} (e : g ≡ wholeOf y n last 0) where
-              whole : g ≡ gatherable a 1000000 (a / 1000000) (lastStep a 1000000 (a / 1000000) depth) 0
-              whole = e ∙ rw (← made) (whole-is kept-high last within)
+              whole : g ≡ gatherable a rateHours (a / rateHours) (lastStep a rateHours (a / rateHours) depth) 0
+              whole = e ∙ rw (← made) (whole-gatherable y n a last (through kept-high last within) 0)
 
               pub may-upper : UpperAsked y first second n r g
               may-upper =
@@ -206,9 +193,9 @@ module _ {mv l first second : List ℕ} {n q a depth : ℕ} (p : SummedAsked mv 
                     room = omega (arith, kept-high .same, p .sheet .room);
                     in-first = p .in-first;
                     in-second = p .in-second;
-                    some = omega (arith, u .all, total-peak a 1000000 (a / 1000000) depth deep);
+                    some = omega (arith, u .all, total-peak a rateHours (a / rateHours) depth deep);
                     divisor = omega (arith, u .all, total-small);
-                    most = rw (whole, u .all) (gatherable-most a 1000000 (a / 1000000) depth 0);
+                    most = rw (whole, u .all) (gatherable-most a rateHours (a / rateHours) depth 0);
                   }
 
               module _ {v : List ℕ} (f : Uppered first second n r g y v) where

@@ -1,7 +1,7 @@
 -- The upper ends from what the sums leave of the whole. Assumes nothing.
 use mathlib.Core.Path.{_≡_, refl, _∙_}
 use mathlib.Core.List.{List}
-use Prim.Native.Nat.{ℕ, _+_, _*_, _-_, _/_, _^_, _≤_, _<_}
+use Prim.Native.Nat.{ℕ, _+_, _*_, _-_, _/_, _≤_, _<_}
 use native.Mathlib.Omega.{arith}
 use native.Mathlib.Nat.{div-le-of-le-mul}
 use lib.ListN.{length, set, length-set}
@@ -17,6 +17,7 @@ use Rattle.rows.specs.Words.{at}
 use Rattle.step.specs.Value.{verdicts}
 use Rattle.sums.specs.Asked.{sumsAt}
 use Rattle.until.specs.Asked.{UpperAsked, Uppered}
+use Rattle.until.proofs.LowerLaw.{over}
 
 pub record Inv (l₀ l first second : List ℕ) (n total whole s : ℕ) : Type 0 where
   pub asked : UpperAsked l₀ first second n total whole
@@ -39,11 +40,8 @@ start p =
     }
 
 -- what is left is at most the total times one, so that its end is at most 1,000,000,000
-end-most : (x y total : ℕ) → y * grain ≤ total * one → x ≤ y → x * scale / total ≤ 1000000000
+end-most : (x y total : ℕ) → y * grain ≤ total * one → x ≤ y → x * scale / total ≤ billion
 end-most x y total h k = div-le-of-le-mul total (omega arith)
-
-over : (x y total : ℕ) → 0 < total → total < 2 ^ 52 → y * grain ≤ total * one → x ≤ y → Over x total
-over x y total p d h k = record { some = p; divisor = d; fits = omega arith }
 
 module _ {l₀ l first second : List ℕ} {n total whole s : ℕ} (v : Inv l₀ l first second n total whole s) (h : s < n) where
   pub in-first : s < length first
@@ -76,11 +74,11 @@ module _ {l₀ l first second : List ℕ} {n total whole s : ℕ} (v : Inv l₀ 
   pub may-over : (x : ℕ) → x ≡ whole - at l (4 * n + s) → Over x total
   may-over x e = over x whole total (v .asked .some) (v .asked .divisor) (v .asked .most) (omega (arith, e))
 
-  pub may-sub : (x r : ℕ) → x ≡ whole - at l (4 * n + s) → r ≡ x * scale / total → r ≤ 1000000000
+  pub may-sub : (x r : ℕ) → x ≡ whole - at l (4 * n + s) → r ≡ x * scale / total → r ≤ billion
   may-sub x r e f = rw f (end-most x whole total (v .asked .most) (omega (arith, e)))
 
   pub turn : (x r y : ℕ) → x ≡ whole - at l (4 * n + s) → r ≡ x * scale / total
-      → y ≡ pointed (verdictAt (at first s)) (verdictAt (at second s)) (1000000000 - r)
+      → y ≡ pointed (verdictAt (at first s)) (verdictAt (at second s)) (billion - r)
       → Inv l₀ (set l (n + s) y) first second n total whole (s + 1)
   turn x r y e f i =
       record {

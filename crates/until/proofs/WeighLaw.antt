@@ -8,6 +8,7 @@ use lib.Dec.{ltb}
 use lib.ListN.{length, take, drop, length-append, length-take, length-drop, List·getD-append}
 use lib.Seq.{getD-drop, getD-take, getD-append-add}
 use borrow.Author.Tests.{ltb-true, ltb-false}
+use Rattle.csl.specs.Limits.{rateHours}
 use Rattle.numbers.specs.Table.{Table}
 use Rattle.bounds.specs.Weight.{low}
 use Rattle.bounds.specs.Ends.{total}
@@ -62,7 +63,7 @@ module _ (xs ys : List ℕ) (a : ℕ) (h : a ≤ length xs) (e : length ys ≡ l
   part-was j l = getD-take (length xs - a) (drop a xs) j 0 l ∙ getD-drop a xs j 0
 
 module _ {xs ys : List ℕ} {n a depth r : ℕ} (p : WeighAsked xs n a depth) where
-  pub is-weighed : (r ≡ total a 1000000 (a / 1000000) depth) × Table (low a 1000000 (a / 1000000)) (take (length xs - 8 * n) (drop (8 * n) xs)) ys (depth + 1)
+  pub is-weighed : (r ≡ total a rateHours (a / rateHours) depth) × Table (low a rateHours (a / rateHours)) (take (length xs - 8 * n) (drop (8 * n) xs)) ys (depth + 1)
       → Weighed n a depth xs (take (8 * n) xs ++ (ys ++ drop (length xs - 8 * n) (drop (8 * n) xs))) r
   unfolding placed rest
   is-weighed (e, t) =
@@ -79,7 +80,7 @@ module _ {xs ys : List ℕ} {n a depth r : ℕ} (p : WeighAsked xs n a depth) wh
       }
     where
       out : (j : ℕ) (b : Bool) → ltb j (length ys) ≡ b → depth < j → 8 * n ≤ length xs → length ys ≡ length xs - 8 * n
-          → Table (low a 1000000 (a / 1000000)) (take (length xs - 8 * n) (drop (8 * n) xs)) ys (depth + 1)
+          → Table (low a rateHours (a / rateHours)) (take (length xs - 8 * n) (drop (8 * n) xs)) ys (depth + 1)
           → at (take (8 * n) xs ++ (ys ++ drop (length xs - 8 * n) (drop (8 * n) xs))) (8 * n + j) ≡ at xs (8 * n + j)
       out j true i l h m t =
           let z : j < length ys = ltb-true j (length ys) i in

@@ -1,20 +1,18 @@
 -- What one run of the code says of any phase whose start is known up to an error: from its sums, both ends of the phase's quotients from D
 -- on, and how near they are. Until is such a phase, with a start that is known exactly. Assumes nothing.
-use mathlib.Core.Path.{_≡_, refl, ap, _∙_}
+use mathlib.Core.Path.{_≡_}
 use mathlib.Core.List.{List}
-use Prim.Native.Nat.{ℕ, suc, _+_, _*_, _-_, _/_, _≤_, _<_}
+use Prim.Native.Nat.{ℕ, _+_, _*_, _-_, _/_, _≤_, _<_}
 use native.Mathlib.Omega.{arith}
-use native.Mathlib.Numerals.{add-one}
 use lib.ListN.{length}
 use Rattle.csl.specs.Limits.{billion, rateHours}
-use Rattle.csl.specs.Chain.{Chain, topRate}
+use Rattle.csl.specs.Chain.{Chain}
 use Rattle.csl.specs.Phase.{Phase}
 use Rattle.csl.specs.Laws.Steps.{Starts}
-use Rattle.numbers.specs.Sum.{sum-cong}
 use Rattle.bounds.specs.Weight.{low}
-use Rattle.bounds.specs.Unit.{one, scale, part}
-use Rattle.bounds.specs.Ends.{total, lastStep, last-step-within, gathered, lowerEnd}
-use Rattle.bounds.specs.Upper.{gatherable, leftEnd}
+use Rattle.bounds.specs.Unit.{one, scale}
+use Rattle.bounds.specs.Ends.{total, lastStep, last-step-within, lowerEnd}
+use Rattle.bounds.specs.Upper.{leftEnd}
 use Rattle.bounds.specs.PhaseEnd.{PhaseEnds, phase-ends}
 use Rattle.rows.specs.Words.{topOf}
 use Rattle.rows.specs.Shown.{Shows, top-shown}
@@ -22,6 +20,7 @@ use Rattle.step.specs.Value.{heldOf, nextAt, heldAt}
 use Rattle.step.specs.Rounded.{StartsHeld, runs}
 use Rattle.sums.specs.Asked.{sumsAt, runAt, Ran}
 use Rattle.until.specs.Asked.{depthOf, weightsAt, wholeOf}
+use Rattle.until.specs.Sums.{sum-gathered, whole-gatherable}
 
 -- the words of a run over a phase: its weights, which states it holds, and a start that is at most e units too low
 pub record Laid (ph : Phase) (a e n q : ℕ) (l : List ℕ) : Type 0 where
@@ -36,31 +35,16 @@ module _ {c : Chain} {mv l l' : List ℕ} {n a e : ℕ} {ph : Phase} (p : Shows 
   last : ℕ
   last = lastStep a rateHours (a / rateHours) (depthOf a)
 
-  value : ℕ → ℕ → ℕ
-  value k s = runAt mv l n (topOf mv (length mv) n) k s
-
-  sum-is : (s : ℕ) → s < n → sumsAt l' n s ≡ gathered a rateHours (a / rateHours) last (λ k. value k s)
-  unfolding gathered last value
-  sum-is s h =
-      r .sums s h
-      ∙ rw add-one
-      (sum-cong (λ k. part (weightsAt l n k) (value k s)) (λ k. part (low a rateHours (a / rateHours) k) (value k s)) (suc last)
-      (λ k b. rw (i .weights k (omega (arith, last-step-within a rateHours (a / rateHours) (depthOf a)))) refl))
-
-  whole-is : wholeOf l n last e ≡ gatherable a rateHours (a / rateHours) last e
-  unfolding gatherable last
-  whole-is =
-      rw add-one
-      (ap (λ (t : ℕ). t - suc last)
-      (sum-cong (λ k. part (weightsAt l n k) (one - (e + k))) (λ k. part (low a rateHours (a / rateHours) k) (one - (e + k))) (suc last)
-      (λ k b. rw (i .weights k (omega (arith, last-step-within a rateHours (a / rateHours) (depthOf a)))) refl)))
+  weights : (k : ℕ) → k ≤ last → weightsAt l n k ≡ low a rateHours (a / rateHours) k
+  unfolding last
+  weights k h = i .weights k (omega (arith, last-step-within a rateHours (a / rateHours) (depthOf a)))
 
   pub run-ends : 0 < a → a ≤ 256000000 → 0 < topOf mv (length mv) n → 0 < ph .whole → Starts c ph → (s : ℕ) → s < n
       → PhaseEnds c ph a rateHours e s (sumsAt l' n s * scale / total a rateHours (a / rateHours) (depthOf a))
       (billion - (wholeOf l n (lastStep a rateHours (a / rateHours) (depthOf a)) e - sumsAt l' n s) * scale
       / total a rateHours (a / rateHours) (depthOf a))
-  unfolding lowerEnd leftEnd last value
+  unfolding lowerEnd leftEnd last
   run-ends load most moving whole starts s h =
-      rw (sum-is s h, whole-is)
+      rw (r .sums s h, sum-gathered l n a last weights (λ k. runAt mv l n (topOf mv (length mv) n) k s), whole-gatherable l n a last weights e)
       (phase-ends a rateHours load (omega arith) c ph (omega (arith, top-shown p)) whole starts (runs p (i .held) (i .start) (i .below) (i .near)) s
       (omega (arith, p .states)) (omega arith))

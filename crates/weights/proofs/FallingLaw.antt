@@ -11,7 +11,7 @@ use borrow.Author.Tests.{lt-ltb, le-ltb}
 use Rattle.numbers.specs.Hint.{le-times}
 use Rattle.numbers.specs.Table.{Table}
 use Rattle.bounds.specs.Ladder.{ladder}
-use Rattle.bounds.specs.Weight.{down, low, low-most}
+use Rattle.bounds.specs.Weight.{peak, down, low, low-most}
 use Rattle.bounds.specs.Ends.{low-peak}
 use Rattle.weights.specs.Asked.{Half, Fall}
 use Rattle.weights.proofs.Span.{Span, span-more}
@@ -38,14 +38,14 @@ pub record Inv (w₀ w : List ℕ) (m a b k : ℕ) : Type 0 where
   pub within : k ≤ m
   pub span : Span (low a b m) w₀ w k (m + 1)
 
-pub start : {w : List ℕ} {m a b : ℕ} → Half w m a b → Inv (set w m 1099511627776) (set w m 1099511627776) m a b m
+pub start : {w : List ℕ} {m a b : ℕ} → Half w m a b → Inv (set w m peak) (set w m peak) m a b m
 start {w} {m} {a} {b} p =
     record {
       asked = record { middle = p .middle; room = simp length-set (p .room); steps = p .steps; load = p .load; small = p .small };
       within = omega arith;
       span = record {
         same = refl;
-        filled = λ k i l. let e : k ≡ m = omega arith in rw e (getD-set-same w m 1099511627776 0 (p .room) ∙ sym (low-peak a b m));
+        filled = λ k i l. let e : k ≡ m = omega arith in rw e (getD-set-same w m peak 0 (p .room) ∙ sym (low-peak a b m));
         before = λ k h. refl;
         after = λ k h. refl;
       };

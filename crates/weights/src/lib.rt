@@ -57,7 +57,7 @@ pub fn falling(w: &mut [u64], m: usize, a: u64, b: u64)
     requires { ⌜ Half (now w) m a b ⌝ }
     ensures { λ _. ⌜ Table (low a b m) (now (w .entry)) (now (w .exit)) (m + 1) ⌝ }
 {
-    w[m] = 1099511627776;
+    w[m] = bounds::PEAK;
     let mut k = m;
     while 0 < k {
         w[k - 1] = before(w[k], k as u64, a, b);
