@@ -6,14 +6,13 @@ from pathlib import Path
 
 from bench import sheets
 from reckoning.report import read_report
-from tests.jobs import MOST_LOAD, MOST_RATE, Sheet, labels_text, moves_text
+from tests.jobs import MOST_LOAD, MOST_RATE, SIGNS, Sheet, labels_text, moves_text
 from tests.program import run
 
 WIDEST = 2                  # billionths, at every load that is not refused
 MADE = 500
 CHAINS = 500
 LOADS = 1_000
-SIGNS = [b"<", b"<=", b">=", b">"]
 
 
 class Narrow(unittest.TestCase):

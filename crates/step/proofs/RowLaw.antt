@@ -35,15 +35,9 @@ module _ {mv l : List ℕ} {n begin end x sum j : ℕ} (v : Inv mv l n begin end
   target : toOf mv j < n
   target = v .asked .targets j in-moves
 
-  pub base-fits : Fits w64 (2 * n)
-  base-fits = omega (arith, v .asked .states)
-
   module _ (to : ℕ) (t : to ≡ toOf mv j) where
     pub in-values : 2 * n + to < length l
     in-values = omega (arith, target, v .asked .room)
-
-    pub index-fits : Fits w64 (2 * n + to)
-    index-fits = omega (arith, target, v .asked .states)
 
   module _ (rate to : ℕ) (r : rate ≡ rateOf mv j) (t : to ≡ toOf mv j) where
     term : rate * at l (2 * n + to) ≡ pull mv (valuesAt l n) j
@@ -67,4 +61,4 @@ module _ {mv l : List ℕ} {n begin end x sum j : ℕ} (v : Inv mv l n begin end
 pub finish : {mv l : List ℕ} {n begin end x sum j : ℕ} → Inv mv l n begin end x sum j → end ≤ j → Summed mv l n begin end x sum
 finish {end = end} {j = j} v h = let e : j ≡ end = omega (arith, v .within) in record { is = rw e at (v .is) }
 
-pub ruleset row-laws = (start, in-moves, base-fits, in-values, index-fits, sum-fits, product-fits, turn, finish)
+pub ruleset row-laws = (start, in-moves, in-values, sum-fits, product-fits, turn, finish)

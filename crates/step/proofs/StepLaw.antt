@@ -8,10 +8,8 @@ use lib.Dec.{ltb}
 use lib.ListN.{length, set, length-set}
 use lib.Seq.{getD-set-same, getD-set-other}
 use borrow.Author.Count.{below-more}
-use mir.Val.{Fits}
-use mir.Syntax.{w64}
 use Rattle.rows.specs.Words.{at, rowOf}
-use Rattle.rows.specs.Sorted.{row-zero, row-most}
+use Rattle.rows.specs.Sorted.{row-zero}
 use Rattle.step.specs.Value.{next, valuesAt, nextAt, heldAt}
 use Rattle.step.specs.Bound.{next-cong}
 use Rattle.step.specs.Asked.{Sheet, StepAsked, StateAsked, Stepped}
@@ -41,33 +39,12 @@ module _ {mv l₀ l : List ℕ} {n q begin s : ℕ} (v : Inv mv l₀ l n q begin
   sheet : Sheet mv l₀ n q
   sheet = v .asked .sheet
 
-  pub ends-index : Fits w64 (7 * n)
-  ends-index = omega (arith, sheet .lines .states)
-
-  pub ends-index-s : Fits w64 (7 * n + s)
-  ends-index-s = omega (arith, sheet .lines .states)
-
-  pub next-index : Fits w64 (3 * n)
-  next-index = omega (arith, sheet .lines .states)
-
-  pub next-index-s : Fits w64 (3 * n + s)
-  next-index-s = omega (arith, sheet .lines .states)
-
-  pub next-fits : Fits w64 (s + 1)
-  next-fits = omega (arith, sheet .lines .states)
-
-  pub in-ends : 7 * n + s < length l
-  in-ends = omega (arith, v .same, sheet .room)
-
   pub in-next : 3 * n + s < length l
   in-next = omega (arith, v .same, sheet .room)
 
   -- the row's end, as read
   end-is : at l (7 * n + s) ≡ rowOf mv (length mv) (suc s)
   end-is = v .after (7 * n + s) (omega arith) ∙ sheet .ends s h
-
-  pub end-fits : Fits w64 (at l (7 * n + s))
-  end-fits = omega (arith, end-is, row-most mv (length mv) (suc s), sheet .lines .few)
 
   pub may-state : StateAsked mv l n q s begin (at l (7 * n + s))
   may-state =
@@ -129,18 +106,4 @@ finish v h =
 pub finish-length : {mv l₀ l : List ℕ} {n q begin s : ℕ} → Inv mv l₀ l n q begin s → length l ≡ length l₀
 finish-length v = v .same
 
-pub ruleset step-laws = (
-  start,
-  ends-index,
-  ends-index-s,
-  next-index,
-  next-index-s,
-  next-fits,
-  in-ends,
-  in-next,
-  end-fits,
-  may-state,
-  turn,
-  finish,
-  finish-length,
-)
+pub ruleset step-laws = (start, in-next, may-state, turn, finish, finish-length)

@@ -38,29 +38,8 @@ start p =
     }
 
 module _ {l₀ l : List ℕ} {n w i : ℕ} (v : Inv l₀ l n w i) (h : i < n) where
-  pub base-two : Fits w64 (2 * n)
-  base-two = omega (arith, v .asked .states)
-
-  pub base-three : Fits w64 (3 * n)
-  base-three = omega (arith, v .asked .states)
-
-  pub base-four : Fits w64 (4 * n)
-  base-four = omega (arith, v .asked .states)
-
   pub two : Fits w64 (2 * n + i)
   two = omega (arith, v .asked .states)
-
-  pub three : Fits w64 (3 * n + i)
-  three = omega (arith, v .asked .states)
-
-  pub four : Fits w64 (4 * n + i)
-  four = omega (arith, v .asked .states)
-
-  pub next-fits : Fits w64 (i + 1)
-  next-fits = omega (arith, v .asked .states)
-
-  pub in-three : 3 * n + i < length l
-  in-three = omega (arith, v .same, v .asked .room)
 
   pub in-two : 2 * n + i < length l
   in-two = omega (arith, v .same, v .asked .room)
@@ -117,20 +96,4 @@ finish v h =
 pub finish-length : {l₀ l : List ℕ} {n w i : ℕ} → Inv l₀ l n w i → length l ≡ length l₀
 finish-length v = v .same
 
-pub ruleset advance-laws = (
-  start,
-  base-two,
-  base-three,
-  base-four,
-  two,
-  three,
-  four,
-  next-fits,
-  in-three,
-  in-two,
-  in-four,
-  may-add,
-  turn,
-  finish,
-  finish-length,
-)
+pub ruleset advance-laws = (start, two, in-two, in-four, may-add, turn, finish, finish-length)

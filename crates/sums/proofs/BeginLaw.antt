@@ -40,38 +40,8 @@ start p =
     }
 
 module _ {l₀ l first second : List ℕ} {n q : ℕ} {b : Bool} {s : ℕ} (v : Inv l₀ l first second n q b s) (h : s < n) where
-  pub in-first : s < length first
-  in-first = omega (arith, v .asked .in-first)
-
-  pub in-second : s < length second
-  in-second = omega (arith, v .asked .in-second)
-
-  pub base-three : Fits w64 (3 * n)
-  base-three = omega (arith, v .asked .states)
-
-  pub base-four : Fits w64 (4 * n)
-  base-four = omega (arith, v .asked .states)
-
-  pub base-five : Fits w64 (5 * n)
-  base-five = omega (arith, v .asked .states)
-
   pub three : Fits w64 (3 * n + s)
   three = omega (arith, v .asked .states)
-
-  pub four : Fits w64 (4 * n + s)
-  four = omega (arith, v .asked .states)
-
-  pub five : Fits w64 (5 * n + s)
-  five = omega (arith, v .asked .states)
-
-  pub base-six : Fits w64 (6 * n)
-  base-six = omega (arith, v .asked .states)
-
-  pub six : Fits w64 (6 * n + s)
-  six = omega (arith, v .asked .states)
-
-  pub next-fits : Fits w64 (s + 1)
-  next-fits = omega (arith, v .asked .states)
 
   pub in-three : 3 * n + s < length l
   in-three = omega (arith, v .same, v .asked .room)
@@ -148,25 +118,4 @@ finish v h =
 pub finish-length : {l₀ l first second : List ℕ} {n q : ℕ} {b : Bool} {s : ℕ} → Inv l₀ l first second n q b s → length l ≡ length l₀
 finish-length v = v .same
 
-pub ruleset begin-laws = (
-  start,
-  in-first,
-  in-second,
-  base-three,
-  base-four,
-  base-five,
-  three,
-  four,
-  five,
-  base-six,
-  six,
-  next-fits,
-  in-three,
-  in-four,
-  in-five,
-  in-six,
-  may-stay,
-  turn,
-  finish,
-  finish-length,
-)
+pub ruleset begin-laws = (start, three, in-three, in-four, in-five, in-six, may-stay, turn, finish, finish-length)

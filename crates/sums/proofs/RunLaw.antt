@@ -6,8 +6,6 @@ use native.Mathlib.Omega.{arith}
 use native.Mathlib.Numerals.{add-one}
 use lib.Dec.{ltb}
 use lib.ListN.{length}
-use mir.Val.{Fits}
-use mir.Syntax.{w64}
 use Rattle.numbers.specs.Sum.{sum-zero, sum-next, sum-most}
 use Rattle.bounds.specs.Unit.{one, part, mostPart, part-most}
 use Rattle.rows.specs.Words.{at}
@@ -41,18 +39,6 @@ start p =
 module _ {mv l₀ l : List ℕ} {n q last k : ℕ} (v : Inv mv l₀ l n q last k) where
   sheet : Sheet mv l₀ n q
   sheet = v .asked .sheet
-
-  pub base-fits : Fits w64 (8 * n)
-  base-fits = omega (arith, sheet .lines .states)
-
-  pub index-fits : Fits w64 (8 * n + k)
-  index-fits = omega (arith, sheet .lines .states, v .asked .limit, v .within)
-
-  pub next-fits : Fits w64 (k + 1)
-  next-fits = omega (arith, v .asked .limit, v .within)
-
-  pub in-weights : 8 * n + k < length l
-  in-weights = omega (arith, v .same, v .asked .room, v .within)
 
   weight-is : at l (8 * n + k) ≡ at l₀ (8 * n + k)
   weight-is = v .after (8 * n + k) (omega arith)
@@ -148,4 +134,4 @@ module _ {mv l₀ l : List ℕ} {n q last k : ℕ} (v : Inv mv l₀ l n q last k
             after = λ i b. u .after i (omega arith) ∙ kept i b;
           }
 
-pub ruleset run-laws = (start, base-fits, index-fits, next-fits, in-weights, may-advance, finish, finish-length, may-step, turn)
+pub ruleset run-laws = (start, may-advance, finish, finish-length, may-step, turn)

@@ -5,7 +5,6 @@ use mathlib.Core.List.{List}
 use Prim.Native.Nat.{ℕ, zero, suc, _+_, _≤_, _<_}
 use native.Mathlib.Omega.{arith}
 use native.Mathlib.Numerals.{add-one}
-use lib.ListN.{length}
 use lib.Dec.{eqb, leb, ltb}
 use borrow.Author.Tests.{eq-eqb, ne-eqb, le-leb, lt-leb, leb-true, ltb-true, ltb-false}
 use Rattle.csl.specs.Verdicts.{asNo, asYes}
@@ -43,12 +42,6 @@ unfolding bothDecided
 start p = record { asked = p; within = omega arith; so-far = refl }
 
 module _ {first second : List ℕ} {n s : ℕ} (v : Inv first second n s) (h : s < n) where
-  pub in-first : s < length first
-  in-first = omega (arith, v .asked .in-first)
-
-  pub in-second : s < length second
-  in-second = omega (arith, v .asked .in-second)
-
   pub turn : at first s ≤ 1 → at second s ≤ 1 → Inv first second n (s + 1)
   unfolding bothDecided
   turn a b =
@@ -65,7 +58,7 @@ module _ {first second : List ℕ} {n s : ℕ} (v : Inv first second n s) (h : s
 pub finish : {first second : List ℕ} {n s : ℕ} → Inv first second n s → n ≤ s → true ≡ bothDecided first second n
 finish {first} {second} {n} {s} v h = let z : s ≡ n = omega (arith, v .within) in rw z at (sym (v .so-far))
 
-pub ruleset decided-laws = (start, in-first, in-second, turn, first-open, second-open, finish)
+pub ruleset decided-laws = (start, turn, first-open, second-open, finish)
 
 -- a byte of 0 or 1 is decided
 small-same : (b : ℕ) → b ≤ 1 → asNo (verdictAt b) ≡ asYes (verdictAt b)

@@ -3,9 +3,6 @@ use mathlib.Core.Path.{_≡_, refl, sym, _∙_}
 use mathlib.Core.List.{List}
 use Prim.Native.Nat.{ℕ, _+_, _*_, _-_, _≤_, _<_}
 use native.Mathlib.Omega.{arith}
-use lib.ListN.{length}
-use mir.Val.{Fits}
-use mir.Syntax.{w64}
 use Rattle.csl.specs.Chain.{sumTo}
 use Rattle.numbers.specs.Sum.{sum-zero, sum-next, sum-most}
 use Rattle.bounds.specs.Unit.{one, part, mostPart, part-most}
@@ -22,47 +19,29 @@ pub ruleset less-laws = (less-none)
 abbrev partAt : List ℕ → ℕ → ℕ → ℕ → ℕ
 partAt l n e k = part (at l (8 * n + k)) (one - (e + k))
 
-pub record Inv (l : List ℕ) (n depth e g k : ℕ) : Type 0 where
-  pub asked : GatherAsked l n depth e
-  pub within : k ≤ depth + 1
+pub record Inv (l : List ℕ) (n last e g k : ℕ) : Type 0 where
+  pub asked : GatherAsked l n last e
+  pub within : k ≤ last + 1
   pub is : g ≡ sumTo (partAt l n e) k
 
-pub start : {l : List ℕ} {n depth e : ℕ} → GatherAsked l n depth e → Inv l n depth e 0 0
-start {l} {n} {depth} {e} p = record { asked = p; within = omega arith; is = sym (sum-zero (partAt l n e)) }
+pub start : {l : List ℕ} {n last e : ℕ} → GatherAsked l n last e → Inv l n last e 0 0
+start {l} {n} {last} {e} p = record { asked = p; within = omega arith; is = sym (sum-zero (partAt l n e)) }
 
-module _ {l : List ℕ} {n depth e g k : ℕ} (v : Inv l n depth e g k) (h : k ≤ depth) where
-  pub base-fits : Fits w64 (8 * n)
-  base-fits = omega (arith, v .asked .states)
-
-  pub index-fits : Fits w64 (8 * n + k)
-  index-fits = omega (arith, v .asked .states, v .asked .limit)
-
-  pub next-fits : Fits w64 (k + 1)
-  next-fits = omega (arith, v .asked .limit)
-
-  pub step-fits : Fits w64 k
-  step-fits = omega (arith, v .asked .limit)
-
-  pub lack-fits : Fits w64 (e + k)
-  lack-fits = omega (arith, v .asked .limit, v .asked .error)
-
-  pub in-weights : 8 * n + k < length l
-  in-weights = omega (arith, v .asked .room)
-
-  each : (i : ℕ) → i ≤ depth → partAt l n e i ≤ mostPart
-  each i b = part-most (at l (8 * n + i)) (one - (e + i)) (v .asked .weights i b) (omega arith)
+module _ {l : List ℕ} {n last e g k : ℕ} (v : Inv l n last e g k) (h : k ≤ last) where
+  each : (i : ℕ) → i ≤ last → partAt l n e i ≤ mostPart
+  each i b = part-most (at l (8 * n + i)) (one - (e + i)) (v .asked .light .weights i b) (omega arith)
 
   module _ (m : ℕ) (y : m ≡ one - (e + k)) where
     pub may-add : Adds g (at l (8 * n + k)) m
     may-add =
         record {
-          weight = v .asked .weights k h;
+          weight = v .asked .light .weights k h;
           value = omega (arith, y);
           fits = rw y
-              (omega (arith, v .is, v .asked .limit, each k h, sum-most (partAt l n e) mostPart k (λ i b. each i (omega arith))));
+              (omega (arith, v .is, v .asked .light .limit, each k h, sum-most (partAt l n e) mostPart k (λ i b. each i (omega arith))));
         }
 
-    pub turn : (r : ℕ) → r ≡ g + part (at l (8 * n + k)) m → Inv l n depth e r (k + 1)
+    pub turn : (r : ℕ) → r ≡ g + part (at l (8 * n + k)) m → Inv l n last e r (k + 1)
     turn r x =
         record {
           asked = v .asked;
@@ -70,14 +49,8 @@ module _ {l : List ℕ} {n depth e g k : ℕ} (v : Inv l n depth e g k) (h : k �
           is = x ∙ rw (v .is, y) (sym (sum-next (partAt l n e) k));
         }
 
-module _ {l : List ℕ} {n depth e g k : ℕ} (v : Inv l n depth e g k) (h : depth < k) where
-  pub depth-fits : Fits w64 depth
-  depth-fits = omega (arith, v .asked .limit)
+module _ {l : List ℕ} {n last e g k : ℕ} (v : Inv l n last e g k) (h : last < k) where
+  pub finish : (r : ℕ) → r ≡ g - (last + 1) → r ≡ wholeOf l n last e
+  finish r x = let y : k ≡ last + 1 = omega (arith, v .within) in rw (x, v .is, y) refl
 
-  pub count-fits : Fits w64 (depth + 1)
-  count-fits = omega (arith, v .asked .limit)
-
-  pub finish : (r : ℕ) → r ≡ g - (depth + 1) → r ≡ wholeOf l n depth e
-  finish r x = let y : k ≡ depth + 1 = omega (arith, v .within) in rw (x, v .is, y) refl
-
-pub ruleset gather-laws = (start, base-fits, index-fits, next-fits, step-fits, lack-fits, in-weights, may-add, turn, depth-fits, count-fits, finish)
+pub ruleset gather-laws = (start, may-add, turn, finish)

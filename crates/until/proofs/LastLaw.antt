@@ -3,22 +3,21 @@ use mathlib.Core.Path.{_≡_, refl, _∙_}
 use mathlib.Core.List.{List}
 use Prim.Native.Nat.{ℕ, zero, suc, _+_, _*_, _-_, _≤_, _<_}
 use native.Mathlib.Omega.{arith}
-use lib.ListN.{length}
 use borrow.Author.Tests.{lt-ltb, le-ltb}
 use mir.Val.{Fits}
 use mir.Syntax.{w64}
 use Rattle.bounds.specs.Weight.{peak}
 use Rattle.bounds.specs.Last.{lastFrom}
-use Rattle.until.specs.Asked.{LastAsked, weightsAt}
+use Rattle.until.specs.Asked.{LightAsked, weightsAt}
 
 -- `rest` of the weights after step k are dropped, and the answer is the same from there on
 pub record Inv (l : List ℕ) (n depth most rest k : ℕ) : Type 0 where
-  pub asked : LastAsked l n depth
+  pub asked : LightAsked l n depth
   pub within : k ≤ depth
   pub light : rest ≤ (depth - k) * peak
   pub same : lastFrom (weightsAt l n) most k rest ≡ lastFrom (weightsAt l n) most depth 0
 
-pub start : {l : List ℕ} {n depth most : ℕ} → LastAsked l n depth → Inv l n depth most 0 depth
+pub start : {l : List ℕ} {n depth most : ℕ} → LightAsked l n depth → Inv l n depth most 0 depth
 start p = record { asked = p; within = omega arith; light = omega arith; same = refl }
 
 -- the rule at a step after 0, as the code counts down
@@ -44,12 +43,6 @@ module _ {l : List ℕ} {n depth most rest k : ℕ} (v : Inv l n depth most rest
   finish h = last-none (weightsAt l n) most k rest h ∙ v .same
 
   module _ (h : 0 < k) where
-    pub in-weights : 8 * n + k < length l
-    in-weights = omega (arith, v .asked .room, v .within)
-
-    pub index-fits : Fits w64 (8 * n + k)
-    index-fits = omega (arith, v .asked .states, v .asked .limit, v .within)
-
     weight-most : weightsAt l n k ≤ peak
     weight-most = v .asked .weights k (v .within)
 
@@ -68,4 +61,4 @@ module _ {l : List ℕ} {n depth most rest k : ℕ} (v : Inv l n depth most rest
           same = last-down (weightsAt l n) most k rest h e ∙ v .same;
         }
 
-pub ruleset last-laws = (start, finish, in-weights, index-fits, sum-fits, found, turn)
+pub ruleset last-laws = (start, finish, sum-fits, found, turn)

@@ -6,8 +6,6 @@ use native.Mathlib.Omega.{arith}
 use lib.ListN.{length, set, length-set}
 use lib.Seq.{getD-set-same, getD-set-other}
 use borrow.Author.Count.{below-more}
-use mir.Val.{Fits}
-use mir.Syntax.{w64}
 use Rattle.bounds.specs.Unit.{one, scale, grain}
 use Rattle.bounds.specs.Values.{pointed, verdictAt}
 use Rattle.weights.specs.Asked.{Over}
@@ -32,24 +30,6 @@ pub over : (x y total : ℕ) → 0 < total → total < 2 ^ 52 → y * grain ≤ 
 over x y total p d h k = record { some = p; divisor = d; fits = omega arith }
 
 module _ {l₀ l first second : List ℕ} {n total s : ℕ} (v : Inv l₀ l first second n total s) (h : s < n) where
-  pub in-first : s < length first
-  in-first = omega (arith, v .asked .in-first)
-
-  pub in-second : s < length second
-  in-second = omega (arith, v .asked .in-second)
-
-  pub base-four : Fits w64 (4 * n)
-  base-four = omega (arith, v .asked .states)
-
-  pub four : Fits w64 (4 * n + s)
-  four = omega (arith, v .asked .states)
-
-  pub next-fits : Fits w64 (s + 1)
-  next-fits = omega (arith, v .asked .states)
-
-  pub in-four : 4 * n + s < length l
-  in-four = omega (arith, v .same, v .asked .room)
-
   pub in-lower : s < length l
   in-lower = omega (arith, v .same, v .asked .room)
 
@@ -78,4 +58,4 @@ finish v h = record { same = v .same; ends = λ g b. v .ends g (omega arith); af
 pub finish-length : {l₀ l first second : List ℕ} {n total s : ℕ} → Inv l₀ l first second n total s → length l ≡ length l₀
 finish-length v = v .same
 
-pub ruleset lower-laws = (start, in-first, in-second, base-four, four, next-fits, in-four, in-lower, may-over, turn, finish, finish-length)
+pub ruleset lower-laws = (start, in-lower, may-over, turn, finish, finish-length)

@@ -8,8 +8,6 @@ use lib.ListN.{length, set, length-set}
 use lib.Seq.{getD-set-same, getD-set-other}
 use lib.Dec.{eqb}
 use borrow.Author.Count.{below-more}
-use mir.Val.{Fits}
-use mir.Syntax.{w64}
 use Rattle.csl.specs.Limits.{billion}
 use Rattle.rows.specs.Words.{at}
 use Rattle.until.specs.Asked.{StillAsked, Still}
@@ -34,15 +32,6 @@ start p =
     }
 
 module _ {l₀ l second : List ℕ} {n s : ℕ} (v : Inv l₀ l second n s) (h : s < n) where
-  pub in-second : s < length second
-  in-second = omega (arith, v .asked .in-second)
-
-  pub above : Fits w64 (n + s)
-  above = omega (arith, v .asked .states)
-
-  pub next-fits : Fits w64 (s + 1)
-  next-fits = omega (arith, v .asked .states)
-
   pub in-lower : s < length l
   in-lower = omega (arith, v .same, v .asked .room)
 
@@ -76,4 +65,4 @@ finish v h =
 pub finish-length : {l₀ l second : List ℕ} {n s : ℕ} → Inv l₀ l second n s → length l ≡ length l₀
 finish-length v = v .same
 
-pub ruleset still-laws = (start, in-second, above, next-fits, in-lower, in-upper, turn, finish, finish-length)
+pub ruleset still-laws = (start, in-lower, in-upper, turn, finish, finish-length)

@@ -19,7 +19,7 @@ use Rattle.step.specs.Bound.{bit-most, run-most}
 use Rattle.step.specs.Asked.{Sheet}
 use Rattle.sums.specs.Asked.{sumsAt}
 use Rattle.until.specs.Sums.{sum-gathered, whole-gatherable}
-use Rattle.until.specs.Asked.{WeighAsked, Weighed, LastAsked, weightsAt, ReadAsked, Read, HighAsked, GatherAsked, wholeOf, LowerAsked, Lowered, UpperAsked, Uppered, SummedAsked, Summed}
+use Rattle.until.specs.Asked.{WeighAsked, Weighed, LightAsked, weightsAt, ReadAsked, Read, HighAsked, GatherAsked, wholeOf, LowerAsked, Lowered, UpperAsked, Uppered, SummedAsked, Summed}
 
 module _ {mv l first second : List ℕ} {n q a depth : ℕ} (p : SummedAsked mv l first second n q a depth) where
   middle : Middle a rateHours (a / rateHours)
@@ -78,25 +78,20 @@ module _ {mv l first second : List ℕ} {n q a depth : ℕ} (p : SummedAsked mv 
           weights = λ k b. light k (omega arith);
         }
 
-    look-kept : LastAsked x n depth
-    look-kept =
-        record { states = p .weigh .states; limit = limit; room = omega (arith, c .same, p .weigh .room); weights = light }
+    light-kept : (last : ℕ) → last ≤ depth → LightAsked x n last
+    light-kept last h =
+        record {
+          states = p .weigh .states;
+          limit = omega (arith, limit);
+          room = omega (arith, c .same, p .weigh .room);
+          weights = λ k b. light k (omega arith);
+        }
 
     last-is : lastFrom (weightsAt x n) (total a rateHours (a / rateHours) depth / negligible) depth 0 ≡ lastStep a rateHours (a / rateHours) depth
     unfolding lastStep
     last-is =
         last-same (weightsAt x n) (low a rateHours (a / rateHours)) (total a rateHours (a / rateHours) depth / negligible) depth (c .weights) depth 0
         (omega arith)
-
-    gather-kept : (last : ℕ) → last ≤ depth → GatherAsked x n last 0
-    gather-kept last h =
-        record {
-          states = p .weigh .states;
-          room = omega (arith, c .same, p .weigh .room);
-          limit = omega (arith, limit);
-          error = omega arith;
-          weights = λ k b. light k (omega arith);
-        }
 
     -- the weights through a step up to the depth
     through : (last : ℕ) → last ≤ depth → (k : ℕ) → k ≤ last → weightsAt x n k ≡ low a rateHours (a / rateHours) k
@@ -121,8 +116,8 @@ module _ {mv l first second : List ℕ} {n q a depth : ℕ} (p : SummedAsked mv 
     kept-weighed : Kept w
     kept-weighed = record { same = u .same; rows = λ k b d. u .before k d; weights = u .weights; beyond = u .beyond }
 
-    pub may-look : LastAsked w n depth
-    may-look = look-kept kept-weighed
+    pub may-look : LightAsked w n depth
+    may-look = light-kept kept-weighed depth (omega arith)
 
     module _ {last : ℕ} (z : last ≡ lastFrom (weightsAt w n) (r / negligible) depth 0) where
       made : last ≡ lastStep a rateHours (a / rateHours) depth
@@ -180,7 +175,7 @@ module _ {mv l first second : List ℕ} {n q a depth : ℕ} (p : SummedAsked mv 
             high-sum s h = rw (← made) (j .sums s h ∙ sum-gathered x n a last (through kept-lower last within) _)
 
             pub may-gather : GatherAsked y n last 0
-            may-gather = gather-kept kept-high last within
+            may-gather = record { light = light-kept kept-high last within; error = omega arith }
 
             module _ {g : ℕ} (e : g ≡ wholeOf y n last 0) where
               whole : g ≡ gatherable a rateHours (a / rateHours) (lastStep a rateHours (a / rateHours) depth) 0

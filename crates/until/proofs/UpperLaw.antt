@@ -7,8 +7,6 @@ use native.Mathlib.Nat.{div-le-of-le-mul}
 use lib.ListN.{length, set, length-set}
 use lib.Seq.{getD-set-same, getD-set-other}
 use borrow.Author.Count.{below-more}
-use mir.Val.{Fits}
-use mir.Syntax.{w64}
 use Rattle.csl.specs.Limits.{billion}
 use Rattle.bounds.specs.Unit.{one, scale, grain}
 use Rattle.bounds.specs.Values.{pointed, verdictAt}
@@ -44,27 +42,6 @@ end-most : (x y total : ℕ) → y * grain ≤ total * one → x ≤ y → x * s
 end-most x y total h k = div-le-of-le-mul total (omega arith)
 
 module _ {l₀ l first second : List ℕ} {n total whole s : ℕ} (v : Inv l₀ l first second n total whole s) (h : s < n) where
-  pub in-first : s < length first
-  in-first = omega (arith, v .asked .in-first)
-
-  pub in-second : s < length second
-  in-second = omega (arith, v .asked .in-second)
-
-  pub base-four : Fits w64 (4 * n)
-  base-four = omega (arith, v .asked .states)
-
-  pub four : Fits w64 (4 * n + s)
-  four = omega (arith, v .asked .states)
-
-  pub next-fits : Fits w64 (s + 1)
-  next-fits = omega (arith, v .asked .states)
-
-  pub in-four : 4 * n + s < length l
-  in-four = omega (arith, v .same, v .asked .room)
-
-  pub above : Fits w64 (n + s)
-  above = omega (arith, v .asked .states)
-
   pub in-upper : n + s < length l
   in-upper = omega (arith, v .same, v .asked .room)
 
@@ -99,19 +76,4 @@ finish v h = record { same = v .same; ends = λ g b. v .ends g (omega arith); be
 pub finish-length : {l₀ l first second : List ℕ} {n total whole s : ℕ} → Inv l₀ l first second n total whole s → length l ≡ length l₀
 finish-length v = v .same
 
-pub ruleset upper-laws = (
-  start,
-  in-first,
-  in-second,
-  base-four,
-  four,
-  next-fits,
-  in-four,
-  above,
-  in-upper,
-  may-over,
-  may-sub,
-  turn,
-  finish,
-  finish-length,
-)
+pub ruleset upper-laws = (start, in-upper, may-over, may-sub, turn, finish, finish-length)

@@ -47,12 +47,12 @@ pub record Weighed (n a depth : ℕ) (l₀ l : List ℕ) (r : ℕ) : Type 0 wher
 abbrev pub weightsAt : List ℕ → ℕ → ℕ → ℕ
 weightsAt l n k = at l (8 * n + k)
 
--- the last step to be made is to be found
-pub record LastAsked (l : List ℕ) (n depth : ℕ) : Type 0 where
+-- the weights of steps 0 to last are to be looked through
+pub record LightAsked (l : List ℕ) (n last : ℕ) : Type 0 where
   pub states : n ≤ 512
-  pub limit : depth < 1024
-  pub room : 8 * n + depth < length l
-  pub weights : (k : ℕ) → k ≤ depth → weightsAt l n k ≤ peak
+  pub limit : last < 1024
+  pub room : 8 * n + last < length l
+  pub weights : (k : ℕ) → k ≤ last → weightsAt l n k ≤ peak
 
 -- two rows of verdict bytes to be looked through
 pub record DecidedAsked (first second : List ℕ) (n : ℕ) : Type 0 where
@@ -90,15 +90,12 @@ pub record HighAsked (mv l first second : List ℕ) (n q last : ℕ) : Type 0 wh
   pub sums : (s : ℕ) → s < n → sumsAt l n s ≡ phaseSum mv l n q last (lowPhase first second) s
 
 -- what values of 0 would leave is to be summed, where values lack e units at step 0
-pub record GatherAsked (l : List ℕ) (n depth e : ℕ) : Type 0 where
-  pub states : n ≤ 512
-  pub room : 8 * n + depth < length l
-  pub limit : depth < 1024
+pub record GatherAsked (l : List ℕ) (n last e : ℕ) : Type 0 where
+  pub light : LightAsked l n last
   pub error : e ≤ one
-  pub weights : (k : ℕ) → k ≤ depth → at l (8 * n + k) ≤ peak
 
 abbrev pub wholeOf : List ℕ → ℕ → ℕ → ℕ → ℕ
-wholeOf l n depth e = sumTo (λ k. part (at l (8 * n + k)) (one - (e + k))) (depth + 1) - (depth + 1)
+wholeOf l n last e = sumTo (λ k. part (weightsAt l n k) (one - (e + k))) (last + 1) - (last + 1)
 
 -- sums to be put over the total
 pub record LowerAsked (l first second : List ℕ) (n total : ℕ) : Type 0 where

@@ -9,7 +9,7 @@ ghost use lib.Dec.{eqb};
 ghost use Rattle.bounds.specs.Last.{lastFrom};
 ghost use Rattle.bounds.specs.Ends.{negligible};
 ghost use Rattle.bounds.specs.Values as values;
-ghost use Rattle.until.specs.Asked.{depthOf, Loaded, WeighAsked, Weighed, LastAsked, weightsAt, DecidedAsked, bothDecided, ReadAsked, Read, HighAsked, GatherAsked, wholeOf, LowerAsked, Lowered, UpperAsked, Uppered, StillAsked, Still, SummedAsked, Summed, UntilAsked, Until};
+ghost use Rattle.until.specs.Asked.{depthOf, Loaded, WeighAsked, Weighed, LightAsked, weightsAt, DecidedAsked, bothDecided, ReadAsked, Read, HighAsked, GatherAsked, wholeOf, LowerAsked, Lowered, UpperAsked, Uppered, StillAsked, Still, SummedAsked, Summed, UntilAsked, Until};
 
 // Rates count moves per million hours.
 pub const RATE_HOURS: u64 = 1000000;
@@ -34,7 +34,7 @@ pub fn weigh(words: &mut [u64], n: usize, a: u64, depth: usize) -> u64
 
 // The last step to be made: the weights of those after it, through the depth, are together next to nothing of the total.
 fn last_step(words: &[u64], n: usize, depth: usize, total: u64) -> usize
-    requires { ⌜ LastAsked (now words) n depth ⌝ }
+    requires { ⌜ LightAsked (now words) n depth ⌝ }
     ensures { λ r. ⌜ r ≡ lastFrom (weightsAt (now (words .entry)) n) (total / negligible) depth 0 ⌝ }
 {
     let most = total / bounds::NEGLIGIBLE;

@@ -6,10 +6,10 @@ use Rattle.until.proofs.gatherable.Statement.{statement}
 use Rattle.until.proofs.gatherable.Tie as tie
 
 abbrev Inv-loop : tie.InvT-loop
-Inv-loop words n depth error g₀ k₀ g k = Inv words n depth error g k
+Inv-loop words n last error g₀ k₀ g k = Inv words n last error g k
 
 abbrev μ-loop : tie.MeasureT-loop
-μ-loop words n depth error g₀ k₀ g k = depth + 1 - k
+μ-loop words n last error g₀ k₀ g k = last + 1 - k
 
 loop-holds : tie.Need-loop-holds Inv-loop μ-loop
 loop-holds c = search (needs, gather-laws)
