@@ -4,7 +4,7 @@ use mathlib.Core.Path.{_≡_}
 use Prim.Native.Nat.{ℕ, _<_}
 use Rattle.csl.specs.Formula.{Formula, always, label, negated, both, until, Comparison}
 use Rattle.csl.specs.Chain.{Chain}
-use Rattle.csl.specs.Verdicts.{Verdict, Yes, marked, negation, conjunction, judged}
+use Rattle.csl.specs.Verdicts.{Verdict, Yes, marked, negation, conjunction, judged, Sides}
 use Rattle.csl.specs.Ends.{EndsAt, AllDecided}
 
 -- at each state of the chain
@@ -59,3 +59,14 @@ NothingUndecided c (both a e) v k =
 NothingUndecided c (until r p t a e) v k =
     AllDecided c v × NothingUndecided c a (k .keeps .first) (k .keeps .first-backed)
     × NothingUndecided c e (k .keeps .second) (k .keeps .second-backed)
+
+-- Demand 2's rule of sides at every `P` of a backing: this node, where it is one, and every node below it
+unfoldable pub SidesThroughout : (c : Chain) (f : Formula) (v : ℕ → Verdict) → Backed c f v → Type 0
+unfolding Backed
+SidesThroughout c always v k = Unit {0}
+SidesThroughout c (label name) v k = Unit {0}
+SidesThroughout c (negated a) v k = SidesThroughout c a (k .first) (k .first-backed)
+SidesThroughout c (both a e) v k = SidesThroughout c a (k .first) (k .first-backed) × SidesThroughout c e (k .second) (k .second-backed)
+SidesThroughout c (until r p t a e) v k =
+    AtEach c (λ s. Sides (v s) r p (k .lower s) (k .upper s)) × SidesThroughout c a (k .keeps .first) (k .keeps .first-backed)
+    × SidesThroughout c e (k .keeps .second) (k .keeps .second-backed)

@@ -5,7 +5,7 @@ use Prim.Native.String.{String}
 use mathlib.Core.Option.{some}
 use Rattle.csl.specs.Text.{bytes}
 use Rattle.csl.specs.Limits.{mostNodes}
-use Rattle.csl.specs.Formula.{Formula, label, negated, until, AtMost, AtLeast}
+use Rattle.csl.specs.Formula.{Formula, always, label, negated, both, until, AtMost, AtLeast}
 use Rattle.csl.specs.Fraction.{Fraction, frac, Same}
 use Rattle.csl.specs.Chain.{Chain, chainOf}
 use Rattle.csl.specs.Phase.{untilQuotient}
@@ -65,8 +65,10 @@ pub record BenchValues : Type 0 where
   pub small-printed : Prints (small "P >= 1000000000 U 0 up dead\n")
       "state,lower,upper,depth,verdict\n0,0,0,40,no\n1,1000000000,1000000000,40,yes\n"
   -- "`tt`: yes twice, depth 0." "`& up ! dead`: yes, no."
+  pub tt-accepted : Accepts (small "tt\n") always 500 0
   pub tt-printed : Prints (small "tt\n")
       "state,lower,upper,depth,verdict\n0,1000000000,1000000000,0,yes\n1,1000000000,1000000000,0,yes\n"
+  pub both-accepted : Accepts (small "& up ! dead\n") (both up (negated dead)) 500 0
   pub both-printed : Prints (small "& up ! dead\n")
       "state,lower,upper,depth,verdict\n0,1000000000,1000000000,0,yes\n1,0,0,0,no\n"
   -- "`P <= 10000000 U 8 up dead`: .. depth 42"
@@ -82,6 +84,7 @@ pub record BenchValues : Type 0 where
   pub fifteen : Accepts (small "! ! ! ! ! ! ! ! ! ! ! ! ! ! ! up\n") (negatedTimes 15 up) 500 0
   pub sixteen : Refuses (small "! ! ! ! ! ! ! ! ! ! ! ! ! ! ! ! up\n") 11
   -- "`P >= 0 U 1 up dead`: yes everywhere", and so on every chain, for all hours and operands
+  pub at-least-0-accepted : Accepts (small "P >= 0 U 1 up dead\n") (until AtLeast 0 1 up dead) 500 42
   pub at-least-0 : (c : Chain) (t : ℕ) (a b : Formula) (lower upper : ℕ → ℕ) (v : ℕ → Verdict)
       → Reported c (until AtLeast 0 t a b) lower upper v → AtEach c λ s. v s ≡ Yes
 

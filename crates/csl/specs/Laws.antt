@@ -17,7 +17,6 @@ pub mod Judging
 pub mod Agree
 pub mod Settled
 pub mod Throughout
-pub mod Report
 pub mod Backing
 pub mod SummedEnds
 pub mod Grammar

@@ -44,6 +44,15 @@ Reported c (negated a) lower upper v = PlainReport c (negated a) lower upper v
 Reported c (both a b) lower upper v = PlainReport c (both a b) lower upper v
 Reported c (until r p t a b) lower upper v = UntilBacked c r p t (Backed c a) (Backed c b) lower upper v
 
+-- the backing that a report has: of a `P`, its own ends with its operands' backings
+unfoldable pub backingOf : (c : Chain) (f : Formula) (lower upper : ℕ → ℕ) (v : ℕ → Verdict) → Reported c f lower upper v → Backed c f v
+unfolding Backed
+backingOf c always lower upper v k = k .backed
+backingOf c (label w) lower upper v k = k .backed
+backingOf c (negated a) lower upper v k = k .backed
+backingOf c (both a b) lower upper v k = k .backed
+backingOf c (until r p t a b) lower upper v k = record { lower = lower; upper = upper; keeps = k }
+
 -- the last decimal digit of a number
 abbrev pub lastDigit : ℕ → Text
 lastDigit n = (48 + n % 10) ∷ []

@@ -1,7 +1,7 @@
 -- What follows from the definitions alone: the user's third demand, of EVERY report that has a backing, whoever made it; the bench values;
 -- what document 01 says in passing; and that the rules can be kept. Nothing here speaks of a program. Assumes nothing.
 use mathlib.Core.Path.{_≡_, refl}
-use mathlib.Core.Bool.{Bool}
+use mathlib.Core.Bool.{Bool, true}
 use Prim.Native.Nat.{ℕ, suc, _+_, _*_, _≤_, _<_}
 use mathlib.Core.List.{List}
 use mathlib.Core.Option.{some}
@@ -16,9 +16,9 @@ use Rattle.csl.specs.Chain.{Chain, load, depth}
 use Rattle.csl.specs.Phase.{untilPhase, divisor, stepTop, weight, untilQuotient}
 use Rattle.csl.specs.Verdicts.{Verdict, Yes, Reading, asNo, Sides}
 use Rattle.csl.specs.Ends.{AllDecided}
-use Rattle.csl.specs.Backing.{AtEach, Backed, NothingUndecided}
+use Rattle.csl.specs.Backing.{AtEach, Backed, NothingUndecided, SidesThroughout}
 use Rattle.csl.specs.Truth.{Obeys, Throughout}
-use Rattle.csl.specs.Report.{Reported}
+use Rattle.csl.specs.Report.{Reported, backingOf}
 use Rattle.csl.specs.Refusal.{Job, jobChain}
 use Rattle.csl.specs.Bench.{small, up, dead, Accepts, BenchValues, EightHours, TrialQuotients}
 use Rattle.csl.specs.Laws.Computing.{computing}
@@ -27,11 +27,10 @@ use Rattle.csl.specs.Laws.Steps.{step-le, step-rises, divisor-some}
 use Rattle.csl.specs.Laws.Quotient.{Implies, until-starts, until-under, until-is, until-le, until-rises, weights-some}
 use Rattle.csl.specs.Laws.Tail.{half-weight, light-from, after}
 use Rattle.csl.specs.Laws.Ends.{ordered}
-use Rattle.csl.specs.Laws.Sides.{judged-sides}
+use Rattle.csl.specs.Laws.Sides.{one-verdict}
 use Rattle.csl.specs.Laws.Enclosure.{Encloses, encloses}
-use Rattle.csl.specs.Laws.Settled.{verdicts-obey}
-use Rattle.csl.specs.Laws.Throughout.{throughout, Together, backings-agree}
-use Rattle.csl.specs.Laws.Report.{report-agrees}
+use Rattle.csl.specs.Laws.Settled.{tables-agree, verdicts-obey}
+use Rattle.csl.specs.Laws.Throughout.{throughout, sides, sides-throughout, Together, backings-agree}
 use Rattle.csl.specs.Laws.Grammar.{read-if-spelled, spelled-if-read}
 use Rattle.csl.specs.Laws.Bench as bench
 use Rattle.csl.specs.Laws.Trial as trial
@@ -55,9 +54,17 @@ module _ (c : Chain) (r : Comparison) (p t : ℕ) (a b : Formula) (lower upper :
 
   -- Demand 2: yes when the interval lies wholly on the threshold's true side, no when wholly on the false side, else undecided
   pub verdicts-follow-from-the-intervals : (s : ℕ) → s < c .states → Sides (v s) r p (lower s) (upper s)
-  verdicts-follow-from-the-intervals s l =
-      rw (k .verdict s l)
-      (judged-sides p (lower s) (upper s) (ordered c t (k .first) (k .second) s (lower s) (upper s) l (k .ends s l)) r)
+  verdicts-follow-from-the-intervals s l = sides c r p t a b lower upper v k s l
+
+  -- the one verdict that this rule allows
+  pub intervals-allow-one-verdict : (w : Verdict) (s : ℕ) → s < c .states → Sides w r p (lower s) (upper s) → v s ≡ w
+  intervals-allow-one-verdict w s l h =
+      one-verdict p (lower s) (upper s) (ordered c t (k .first) (k .second) s (lower s) (upper s) l (k .ends s l)) r (v s) w
+      (verdicts-follow-from-the-intervals s l) h
+
+-- and so at every `P` of a backing
+pub verdicts-follow-at-every-node : (c : Chain) (f : Formula) (v : ℕ → Verdict) (k : Backed c f v) → SidesThroughout c f v k
+verdicts-follow-at-every-node c f v k = sides-throughout c f v k
 
 -- T2. Demand 3: "every truth table that obeys CSL's rules agrees with each yes and no, nested formulas included". At every node, and for
 -- the verdicts of every report.
@@ -67,17 +74,19 @@ tables-agree-at-every-node c f v table k o = throughout c f v table k o
 
 pub tables-agree-with-the-report : (c : Chain) (f : Formula) (lower upper : ℕ → ℕ) (v : ℕ → Verdict) (table : ℕ → Bool)
     → Reported c f lower upper v → Obeys c f table → Reading (c .states) v table
-tables-agree-with-the-report c f lower upper v table k o = report-agrees c f lower upper v table k o
+tables-agree-with-the-report c f lower upper v table k o = tables-agree c f v table (backingOf c f lower upper v k) o
 
 -- and so no two backings stand yes against no
 pub backings-never-contradict : (c : Chain) (f : Formula) (v w : ℕ → Verdict) → Backed c f v → Backed c f w
     → AtEach c λ s. Together (v s) (w s)
 backings-never-contradict c f v w k m = backings-agree c f v w k m
 
--- T3. Demand 3: "with nothing undecided the verdicts are such a table".
+-- T3. Demand 3: "with nothing undecided the verdicts are such a table". There is a table that obeys CSL's rules and agrees with the backing
+-- at every node: since nothing there is undecided, its entries are the verdicts.
 pub decided-verdicts-are-a-table : (c : Chain) (f : Formula) (v : ℕ → Verdict) (k : Backed c f v) → NothingUndecided c f v k
-    → Obeys c f (λ s. asNo (v s))
-decided-verdicts-are-a-table c f v k d = verdicts-obey c f v k d
+    → (o : Obeys c f (λ s. asNo (v s))) × Throughout c f v (λ s. asNo (v s)) k o
+decided-verdicts-are-a-table c f v k d =
+    let o : Obeys c f (λ s. asNo (v s)) = verdicts-obey c f v k d in (o, throughout c f v (λ s. asNo (v s)) k o)
 
 -- T4. The starred bench values, and `P <= 10000000 U 8 up dead`, of every report that has a backing; and quotients as a second reckoning
 -- has them.
@@ -130,7 +139,7 @@ pub weights-after-the-depth : (c : Chain) (t j : ℕ)
 unfolding load
 weights-after-the-depth c t j = after (load c t) (omega arith) (depth c t) (light-from c t (depth c t) (omega arith)) j
 
--- T6. The definitions do not contradict themselves: two jobs, accepted, that have a report with a backing.
+-- T6. The definitions do not contradict themselves: two jobs, accepted, that have a report with a backing, and a truth table of the first.
 pub record HasReport (j : Job) (f : Formula) (q d : ℕ) (lower upper : ℕ → ℕ) (v : ℕ → Verdict) : Type 0 where
   pub accepts : Accepts j f q d
   pub reported : Reported (jobChain j) f lower upper v
@@ -140,6 +149,11 @@ pub nested-job-has-a-report : HasReport (small "P >= 1 U 8 up P > 10000000 U 8 u
     (until AtLeast 1 8 up (until More 10000000 8 up dead)) 500 42 examples.lower8 examples.upper8 (λ s. Yes)
 unfolding computing
 nested-job-has-a-report = record { accepts = refl; reported = examples.nested }
+
+-- and a truth table that obeys CSL's rules, yes twice at the outermost node
+pub nested-job-has-a-table : Obeys (jobChain (small "P >= 1 U 8 up P > 10000000 U 8 up dead\n"))
+    (until AtLeast 1 8 up (until More 10000000 8 up dead)) (λ s. true)
+nested-job-has-a-table = examples.nested-obeys
 
 -- an undecided operand: 0 to 1,000,000,000 and undecided at state 0, 0 twice and no at state 1
 pub undecided-job-has-a-report : HasReport (small "P >= 5 U 8 up P <= 3992010 U 8 up dead\n")

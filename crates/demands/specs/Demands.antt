@@ -8,19 +8,20 @@ use mathlib.Core.Logic.{_⊎_}
 use mathlib.Core.Option.{none, some}
 use Prim.Native.Nat.{ℕ, _+_, _*_, _≤_, _<_}
 use Rattle.csl.specs.Limits.{widthFactor}
+use Rattle.csl.specs.Moves.{ratesOut}
 use Rattle.csl.specs.Formula.{Formula, until, Comparison}
 use Rattle.csl.specs.Fraction.{Below, billionths}
-use Rattle.csl.specs.Chain.{Chain, depth}
+use Rattle.csl.specs.Chain.{Chain, exitRate, topRate, depth}
 use Rattle.csl.specs.Phase.{untilQuotient}
 use Rattle.csl.specs.Verdicts.{Verdict, Reading, asNo, Sides}
 use Rattle.csl.specs.Ends.{AllDecided}
-use Rattle.csl.specs.Backing.{NothingUndecided}
-use Rattle.csl.specs.Truth.{Obeys, Throughout}
-use Rattle.csl.specs.Report.{Reported, depthOf}
+use Rattle.csl.specs.Backing.{Backed, NothingUndecided, SidesThroughout}
+use Rattle.csl.specs.Truth.{Obeys, UntilTrue, Throughout}
+use Rattle.csl.specs.Report.{Reported, backingOf, depthOf}
 use Rattle.csl.specs.Lent.{Buffers, lengths}
-use Rattle.csl.specs.Refusal.{Job, jobChain, jobFormula, refusal}
+use Rattle.csl.specs.Refusal.{Job, jobMoves, jobChain, jobFormula, refusal, accepted, outcome}
 use Rattle.csl.specs.Finished.{Answer, refusedWith, acceptedWith, Finished}
-use Rattle.csl.specs.Laws.Report.{backed-of}
+use Rattle.csl.specs.Laws.Throughout.{here}
 use Rattle.csl.specs.Theorems as theorems
 use Rattle.demands.specs.Proved as proved
 use Rattle.demands.specs.Proved.{TheReport}
@@ -44,11 +45,27 @@ module _ (j : Job) (before : Buffers (List ℕ)) (a : Answer) (after : Buffers (
   pub accepted-only-then : (d : ℕ) → a ≡ acceptedWith d → refusal j (lengths before) ≡ none
   accepted-only-then d h = proved.accepted-then j before a after finished d h
 
--- "yes when the interval lies wholly on the threshold's true side, no when wholly on the false side, else undecided"
-pub verdicts-follow : (j : Job) (r : Comparison) (p t : ℕ) (f g : Formula) → jobFormula j ≡ until r p t f g
-    → (lower upper : ℕ → ℕ) (v : ℕ → Verdict) → Reported (jobChain j) (jobFormula j) lower upper v
-    → (s : ℕ) → s < jobChain j .states → Sides (v s) r p (lower s) (upper s)
-verdicts-follow j r p t f g e lower upper v k s l = proved.verdicts-follow (jobChain j) (jobFormula j) r p t f g e lower upper v k s l
+-- ".. rate, depth and labels exact": an accepted job is decided over the chain of its texts, at that chain's greatest exit rate
+pub decided-at-its-rate : (j : Job) (lent : Buffers ℕ) → refusal j lent ≡ none
+    → outcome j lent ≡ accepted (jobChain j) (jobFormula j) (topRate (jobChain j)) (depthOf (jobChain j) (jobFormula j))
+decided-at-its-rate j lent h = proved.outcome-by j lent h
+
+-- and each exit rate is the sum of the rates on the state's lines
+pub exit-rates-by-lines : (j : Job) (lent : Buffers ℕ) → refusal j lent ≡ none → (s : ℕ) → exitRate (jobChain j) s ≡ ratesOut (jobMoves j) s
+exit-rates-by-lines j lent h s = proved.exit-by-lines j lent h s
+
+-- "yes when the interval lies wholly on the threshold's true side, no when wholly on the false side, else undecided": at every `P` of every
+-- backing, and for the outermost `P` with the ends of the report
+pub verdicts-follow : (c : Chain) (f : Formula) (v : ℕ → Verdict) (k : Backed c f v) → SidesThroughout c f v k
+verdicts-follow c f v k = theorems.verdicts-follow-at-every-node c f v k
+
+module _ (c : Chain) (r : Comparison) (p t : ℕ) (f g : Formula) (lower upper : ℕ → ℕ) (v : ℕ → Verdict)
+    (k : Reported c (until r p t f g) lower upper v) (s : ℕ) (in-range : s < c .states) where
+  pub reported-verdicts-follow : Sides (v s) r p (lower s) (upper s)
+  reported-verdicts-follow = theorems.verdicts-follow-from-the-intervals c r p t f g lower upper v k s in-range
+
+  pub no-other-verdict-follows : (w : Verdict) → Sides w r p (lower s) (upper s) → v s ≡ w
+  no-other-verdict-follows w h = theorems.intervals-allow-one-verdict c r p t f g lower upper v k w s in-range h
 
 -- Demand 3. "Every accepted job's report has a backing" (TheReport, above), "and for every backing, at every state: the outermost until's
 -- quotient at every depth from D on, for every reading, lies in the interval; width at most 4 × D billionths where no operand state is
@@ -65,10 +82,25 @@ module _ (c : Chain) (r : Comparison) (p t : ℕ) (f g : Formula) (lower upper :
   every-interval-is-narrow i h s l = theorems.intervals-are-narrow c r p t f g lower upper v k i h s l
 
 -- "every truth table that obeys CSL's rules agrees with each yes and no, nested formulas included; with nothing undecided the verdicts are
--- such a table": of every report and every backing of it.
-module _ (c : Chain) (f : Formula) (lower upper : ℕ → ℕ) (v : ℕ → Verdict) (k : Reported c f lower upper v) where
-  pub every-table-agrees : (table : ℕ → Bool) (o : Obeys c f table) → Throughout c f v table (backed-of c f lower upper v k) o
-  every-table-agrees table o = theorems.tables-agree-at-every-node c f v table (backed-of c f lower upper v k) o
+-- such a table": of every backing. That of a report is csl's `backingOf`.
+module _ (c : Chain) (f : Formula) (v : ℕ → Verdict) (k : Backed c f v) where
+  pub every-table-agrees : (table : ℕ → Bool) (o : Obeys c f table) → Throughout c f v table k o
+  every-table-agrees table o = theorems.tables-agree-at-every-node c f v table k o
 
-  pub decided-verdicts-are-a-table : NothingUndecided c f v (backed-of c f lower upper v k) → Obeys c f (λ s. asNo (v s))
-  decided-verdicts-are-a-table d = theorems.decided-verdicts-are-a-table c f v (backed-of c f lower upper v k) d
+  pub decided-verdicts-are-a-table : NothingUndecided c f v k → (o : Obeys c f (λ s. asNo (v s))) × Throughout c f v (λ s. asNo (v s)) k o
+  decided-verdicts-are-a-table d = theorems.decided-verdicts-are-a-table c f v k d
+
+-- so the verdicts that any backing of a report gives the operands of its `P` agree with every such table
+module _ (c : Chain) (r : Comparison) (p t : ℕ) (f g : Formula) (lower upper : ℕ → ℕ) (v : ℕ → Verdict)
+    (k : Reported c (until r p t f g) lower upper v) (table : ℕ → Bool) (o : UntilTrue c r p t (Obeys c f) (Obeys c g) table) where
+  pub first-operand-agrees : Reading (c .states) (k .first) (o .first)
+  unfolding Throughout backingOf Obeys
+  first-operand-agrees =
+      here c f (k .first) (o .first) (k .first-backed) (o .first-obeys)
+      (every-table-agrees c (until r p t f g) v (backingOf c (until r p t f g) lower upper v k) table o .1)
+
+  pub second-operand-agrees : Reading (c .states) (k .second) (o .second)
+  unfolding Throughout backingOf Obeys
+  second-operand-agrees =
+      here c g (k .second) (o .second) (k .second-backed) (o .second-obeys)
+      (every-table-agrees c (until r p t f g) v (backingOf c (until r p t f g) lower upper v k) table o .2)

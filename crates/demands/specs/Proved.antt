@@ -1,23 +1,24 @@
 -- What the demands say of the answer, from what a finished job is. Assumes nothing.
-use mathlib.Core.Path.{_≡_, refl, subst}
+use mathlib.Core.Path.{_≡_, refl, sym, _∙_}
 use mathlib.Core.List.{List, [], _∷_, _++_}
 use mathlib.Core.Logic.{_⊎_, inl, inr}
-use mathlib.Core.Option.{Option, none, some}
-use Prim.Native.Nat.{ℕ, _≤_, _<_}
+use mathlib.Core.Option.{Option, none, some, Option·some-ne-none}
+use Prim.Native.Nat.{ℕ, _≤_}
 use native.Mathlib.Omega.{arith}
 use lib.ListN.{length}
 use lib.Dec.{leb}
 use borrow.Author.Tests.{leb-true}
 use Rattle.csl.specs.Text.{every}
-use Rattle.csl.specs.Formula.{Formula, until, Comparison, nodes}
-use Rattle.csl.specs.Chain.{Chain}
-use Rattle.csl.specs.Verdicts.{Verdict, Sides}
+use Rattle.csl.specs.Moves.{ratesOut}
+use Rattle.csl.specs.Formula.{nodes}
+use Rattle.csl.specs.Chain.{chainOf, exitRate, topRate}
+use Rattle.csl.specs.Verdicts.{Verdict}
 use Rattle.csl.specs.Report.{Reported, depthOf}
 use Rattle.csl.specs.Lent.{Buffers, lengths, filled}
-use Rattle.csl.specs.Refusal.{Job, jobStates, jobMoves, jobChain, jobFormula, refusal, test, textTests, shortBuffer, outcome, outcomeBy}
+use Rattle.csl.specs.Refusal.{Job, jobStates, jobMoves, jobChain, jobFormula, strangeState, ownState, refusal, textRefusal, test, textTests, firstOf, shortBuffer, accepted, outcome, outcomeBy}
 use Rattle.csl.specs.Finished.{Answer, refusedWith, acceptedWith, Finished, FinishedBy}
-use Rattle.csl.specs.Laws.Refusal.{first-number, refusal-number-some}
-use Rattle.csl.specs.Theorems as theorems
+use Rattle.csl.specs.Laws.Refusal.{first-number, first-found, refusal-number-some, Passed, passed}
+use Rattle.csl.specs.Laws.Rates as rates
 
 -- each number of the tests lies from 1 to 15
 numbers-within : (j : Job) (lent : Buffers ℕ) (k : ℕ) → refusal j lent ≡ some k → (1 ≤ k) × (k ≤ 15)
@@ -33,9 +34,6 @@ TheReport j before after lower upper v =
 
 differ : {A : Type 0} (k d : ℕ) (a : Answer) → a ≡ refusedWith k → a ≡ acceptedWith d → A
 differ k d a h i = let z : _≡_ {A = ℕ} 0 1 = cc in absurd (omega arith)
-
-same-number : (k l : ℕ) → refusedWith k ≡ refusedWith l → k ≡ l
-same-number k l h = cc
 
 module _ (j : Job) (before : Buffers (List ℕ)) (a : Answer) (after : Buffers (List ℕ)) where
   -- by whether a test holds
@@ -83,8 +81,23 @@ module _ (j : Job) (before : Buffers (List ℕ)) (a : Answer) (after : Buffers (
       × TheReport j before after lower upper v)
   one-answer f = answered (refusal j (lengths before)) refl (by f)
 
--- a formula that is a `P`
-pub verdicts-follow : (c : Chain) (x : Formula) (r : Comparison) (p t : ℕ) (f g : Formula) → x ≡ until r p t f g
-    → (lower upper : ℕ → ℕ) (v : ℕ → Verdict) → Reported c x lower upper v → (s : ℕ) → s < c .states → Sides (v s) r p (lower s) (upper s)
-verdicts-follow c x r p t f g e lower upper v k s l =
-    theorems.verdicts-follow-from-the-intervals c r p t f g lower upper v (subst (λ y. Reported c y lower upper v) e k) s l
+-- a job that no test turns back
+module _ (j : Job) (lent : Buffers ℕ) (h : refusal j lent ≡ none) where
+  pub outcome-by : outcome j lent ≡ accepted (jobChain j) (jobFormula j) (topRate (jobChain j)) (depthOf (jobChain j) (jobFormula j))
+  unfolding outcome outcomeBy
+  outcome-by = rw h refl
+
+  texts-pass : textRefusal j ≡ none
+  unfolding refusal textRefusal
+  texts-pass = go (firstOf (textTests j)) refl
+    where
+      go : (o : Option ℕ) → firstOf (textTests j) ≡ o → o ≡ none
+      go none e = refl
+      go (some k) e = absurd (Option·some-ne-none k (sym (first-found (textTests j) _ k e) ∙ h))
+
+  pub exit-by-lines : (s : ℕ) → exitRate (jobChain j) s ≡ ratesOut (jobMoves j) s
+  unfolding chainOf strangeState ownState
+  exit-by-lines s =
+      let p : Passed j = passed j texts-pass in
+      rates.exit-by-lines (j .moves) (j .labels) (rates.within-tested (jobStates j) (jobMoves j) (p .known-states))
+      (rates.apart-tested (jobMoves j) (p .other-states)) s

@@ -108,7 +108,9 @@ bench-values =
     record {
       small-accepted = refl;
       small-printed = small-prints;
+      tt-accepted = refl;
       tt-printed = tt-prints;
+      both-accepted = refl;
       both-printed = both-prints;
       eight-hours = refl;
       full-load = refl;
@@ -117,5 +119,6 @@ bench-values =
       no-moves-printed = no-moves-prints;
       fifteen = refl;
       sixteen = refl;
+      at-least-0-accepted = refl;
       at-least-0 = λ c t a b lower upper v k s l. k .verdict s l ∙ rw (leb·zero (lower s));
     }

@@ -3,7 +3,7 @@ use mathlib.Core.Path.{_≡_, refl}
 use mathlib.Core.Bool.{Bool, true, false, not, _||_}
 use Prim.Native.Nat.{ℕ, _*_, _≤_, _<_}
 use native.Mathlib.Omega.{arith}
-use native.Mathlib.Nat.{le-refl, le-of-mul-le-mul-right}
+use native.Mathlib.Nat.{le-refl}
 use Rattle.csl.specs.Fraction.{Fraction, frac, Below, Same, billionths}
 use Rattle.csl.specs.Chain.{Chain, load, topRate, depth}
 use Rattle.csl.specs.Phase.{bit, untilPhase, divisor, stepTop, stepValue, untilQuotient}
@@ -52,28 +52,6 @@ module _ (c : Chain) (t : ℕ) (v w : ℕ → Verdict) (s lower upper : ℕ) (in
       let h : Below (billionths lower) (billionths upper)
       = below-trans (billionths lower) high (billionths upper) (until-is c t (most v) (most w) s d)
       (under-right (billionths lower) low high (low-high d) (e .lower-side d (le-refl d))) (e .upper-side d (le-refl d)) in
-      omega arith
-
-  -- a second operand that is undecided puts the upper end at 1
-  pub upper-of-undecided : w s ≡ Undecided → upper ≡ 1000000000
-  upper-of-undecided h =
-      let d : ℕ = depth c t in
-      let high : Fraction = highQuotient c t v w s d in
-      let one : high .top ≡ high .bottom = until-one c t (most v) (most w) s in-range (rw h) d in
-      let k : 1000000000 ≤ upper
-      = le-of-mul-le-mul-right {k = high .bottom} (omega (arith, e .upper-side d (le-refl d)))
-      (until-is c t (most v) (most w) s d) in
-      omega (arith, e .upper-range)
-
-  -- a first operand that is undecided, where the second is no, puts the lower end at 0
-  pub lower-of-undecided : v s ≡ Undecided → w s ≡ No → lower ≡ 0
-  lower-of-undecided h k =
-      let d : ℕ = depth c t in
-      let low : Fraction = lowQuotient c t v w s d in
-      let nil : low .top ≡ 0 = until-nil c t (least v) (least w) s (rw h) (rw k) d in
-      let j : lower ≤ 0
-      = le-of-mul-le-mul-right {k = low .bottom} (omega (arith, e .lower-side d (le-refl d)))
-      (until-is c t (least v) (least w) s d) in
       omega arith
 
 -- where the second operand holds nowhere the quotients are 0

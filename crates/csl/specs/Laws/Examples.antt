@@ -1,17 +1,18 @@
 -- Two jobs over the small sheet that have a backing, written out: the rules for ends can be kept, with a `P` within a `P`, and with an
 -- undecided state. Assumes nothing.
 use mathlib.Core.Path.{_≡_, refl, _∙_}
-use mathlib.Core.Bool.{true, false, cond}
+use mathlib.Core.Bool.{Bool, true, false, cond}
 use Prim.Native.Nat.{ℕ, zero, suc, _+_, _*_, _≤_, _<_}
 use native.Mathlib.Omega.{arith}
 use Rattle.csl.specs.Limits.{billion}
-use Rattle.csl.specs.Formula.{until, Comparison, AtMost, AtLeast, More}
+use Rattle.csl.specs.Formula.{Formula, until, Comparison, AtMost, AtLeast, More}
 use Rattle.csl.specs.Fraction.{Below, billionths}
 use Rattle.csl.specs.Chain.{topRate, depth}
-use Rattle.csl.specs.Verdicts.{Verdict, No, Yes, Undecided, marked, judged, least, most}
+use Rattle.csl.specs.Verdicts.{Verdict, No, Yes, Undecided, marked, judged, least, most, Decided}
 use Rattle.csl.specs.Ends.{EndsAt, slack, lowQuotient, highQuotient}
-use Rattle.csl.specs.Backing.{AtEach, Backed}
-use Rattle.csl.specs.Report.{Reported}
+use Rattle.csl.specs.Backing.{AtEach, Backed, NothingUndecided}
+use Rattle.csl.specs.Truth.{Obeys}
+use Rattle.csl.specs.Report.{Reported, backingOf}
 use Rattle.csl.specs.Bench.{up, dead}
 use Rattle.csl.specs.Laws.Computing.{computing}
 use Rattle.csl.specs.Laws.Verdicts.{yes-or-no}
@@ -19,6 +20,7 @@ use Rattle.csl.specs.Laws.SummedEnds.{more-room, wider}
 use Rattle.csl.specs.Laws.Readings.{low-marks, high-marks, below-same, same-below}
 use Rattle.csl.specs.Laws.Ends.{until-one, until-nowhere}
 use Rattle.csl.specs.Laws.PointEnds.{ends-certain, ends-impossible}
+use Rattle.csl.specs.Laws.Settled.{verdicts-obey}
 use Rattle.csl.specs.Laws.EightHours.{sheet, isUp, isDead, two-states, depth-is, at-least, at-most}
 
 -- both states
@@ -117,7 +119,7 @@ ends-8 v w h k =
     (rw dead-yes (ends-certain sheet 8 v w 1 (omega (arith, two-states)) (k 1 (omega (arith, two-states)) ∙ dead-1)))
 
 -- a backing of `P r p U 8 up dead`, for any comparison and threshold
-inner : (r : Comparison) (p : ℕ) → Reported sheet (until r p 8 up dead) lower8 upper8 (λ s. judged r p (lower8 s) (upper8 s))
+unfoldable inner : (r : Comparison) (p : ℕ) → Reported sheet (until r p 8 up dead) lower8 upper8 (λ s. judged r p (lower8 s) (upper8 s))
 unfolding Backed
 inner r p =
     record {
@@ -133,9 +135,12 @@ inner r p =
 inner-is : AtEach sheet λ s. judged More 10000000 (lower8 s) (upper8 s) ≡ marked (isDead s)
 inner-is = at-two _ (rw dead-no) (rw dead-yes)
 
-pub nested : Reported sheet (until AtLeast 1 8 up (until More 10000000 8 up dead)) lower8 upper8 (λ s. Yes)
+abbrev nestedFormula : Formula
+nestedFormula = until AtLeast 1 8 up (until More 10000000 8 up dead)
+
+unfoldable nestedBacking : Reported sheet nestedFormula lower8 upper8 (λ s. Yes)
 unfolding Backed
-nested =
+nestedBacking =
     record {
       first = λ s. marked (isUp s);
       first-backed = λ s l. refl;
@@ -144,6 +149,26 @@ nested =
       ends = ends-8 (λ s. marked (isUp s)) (λ s. judged More 10000000 (lower8 s) (upper8 s)) (λ s l. refl) inner-is;
       verdict = at-two _ (rw dead-no) (rw dead-yes);
     }
+
+pub nested : Reported sheet (until AtLeast 1 8 up (until More 10000000 8 up dead)) lower8 upper8 (λ s. Yes)
+nested = nestedBacking
+
+-- nothing is undecided in it, so its verdicts are a truth table
+decided-mark : (b : Bool) → Decided (marked b)
+decided-mark true = tt
+decided-mark false = tt
+
+nested-decided : NothingUndecided sheet nestedFormula (λ s. Yes) (backingOf sheet nestedFormula lower8 upper8 (λ s. Yes) nestedBacking)
+unfolding Backed NothingUndecided backingOf nestedBacking inner
+nested-decided = (
+  λ s l. tt,
+  λ s l. decided-mark (isUp s),
+  (λ s l. rw (inner-is s l) (decided-mark (isDead s)), λ s l. decided-mark (isUp s), λ s l. decided-mark (isDead s)),
+)
+
+pub nested-obeys : Obeys sheet (until AtLeast 1 8 up (until More 10000000 8 up dead)) (λ s. true)
+nested-obeys =
+    verdicts-obey sheet nestedFormula (λ s. Yes) (backingOf sheet nestedFormula lower8 upper8 (λ s. Yes) nestedBacking) nested-decided
 
 -- "P >= 5 U 8 up P <= 3992010 U 8 up dead": the inner `P` is undecided at state 0 and no at state 1
 abbrev open8 : ℕ → Verdict

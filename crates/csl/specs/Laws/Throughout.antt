@@ -1,4 +1,4 @@
--- tables-agree at every node; and two backings never stand against each other. Assumes nothing.
+-- At every node: tables agree, and the rule of sides holds; and two backings never stand against each other. Assumes nothing.
 use mathlib.Core.Path.{refl, sym, _∙_}
 use mathlib.Core.Bool.{Bool, true, false, not, _&&_, _||_}
 use Prim.Native.Nat.{ℕ}
@@ -6,10 +6,12 @@ use Rattle.csl.specs.Formula.{Comparison, Formula, always, label, negate
 use Rattle.csl.specs.Fraction.{Fraction, IsFraction}
 use Rattle.csl.specs.Chain.{Chain}
 use Rattle.csl.specs.Phase.{untilQuotient}
-use Rattle.csl.specs.Verdicts.{Verdict, No, Yes, Undecided, Agrees, asNo}
-use Rattle.csl.specs.Backing.{AtEach, Backed}
+use Rattle.csl.specs.Verdicts.{Verdict, No, Yes, Undecided, Agrees, Reading, Sides, asNo}
+use Rattle.csl.specs.Backing.{AtEach, Backed, UntilBacked, SidesThroughout}
 use Rattle.csl.specs.Truth.{Throughout, Obeys}
 use Rattle.csl.specs.Laws.Quotient.{until-is}
+use Rattle.csl.specs.Laws.Ends.{ordered}
+use Rattle.csl.specs.Laws.Sides.{judged-sides}
 use Rattle.csl.specs.Laws.Judging.{Settles, apart}
 use Rattle.csl.specs.Laws.Agree.{agrees-mark, agrees-not, agrees-and}
 use Rattle.csl.specs.Laws.Settled.{tables-agree, until-settles}
@@ -25,6 +27,34 @@ throughout c (until r p t a e) v b k o = (
   tables-agree c (until r p t a e) v b k o,
   throughout c a _ _ (k .keeps .first-backed) (o .first-obeys),
   throughout c e _ _ (k .keeps .second-backed) (o .second-obeys),
+)
+
+-- of which one part is that it agrees at the node itself
+pub here : (c : Chain) (f : Formula) (v : ℕ → Verdict) (b : ℕ → Bool) (k : Backed c f v) (o : Obeys c f b) → Throughout c f v b k o
+    → Reading (c .states) v b
+unfolding Backed Obeys Throughout
+here c always v b k o h = h
+here c (label name) v b k o h = h
+here c (negated a) v b k o h = h .0
+here c (both a e) v b k o h = h .0
+here c (until r p t a e) v b k o h = h .0
+
+-- the rule of sides, of one `P` and of every `P`
+pub sides : (c : Chain) (r : Comparison) (p t : ℕ) (a e : Formula) (lower upper : ℕ → ℕ) (v : ℕ → Verdict)
+    → UntilBacked c r p t (Backed c a) (Backed c e) lower upper v → AtEach c λ s. Sides (v s) r p (lower s) (upper s)
+sides c r p t a e lower upper v k s l =
+    rw (k .verdict s l) (judged-sides p (lower s) (upper s) (ordered c t (k .first) (k .second) s (lower s) (upper s) l (k .ends s l)) r)
+
+pub sides-throughout : (c : Chain) (f : Formula) (v : ℕ → Verdict) (k : Backed c f v) → SidesThroughout c f v k
+unfolding Backed SidesThroughout
+sides-throughout c always v k = tt
+sides-throughout c (label name) v k = tt
+sides-throughout c (negated a) v k = sides-throughout c a _ (k .first-backed)
+sides-throughout c (both a e) v k = (sides-throughout c a _ (k .first-backed), sides-throughout c e _ (k .second-backed))
+sides-throughout c (until r p t a e) v k = (
+  sides c r p t a e (k .lower) (k .upper) v (k .keeps),
+  sides-throughout c a _ (k .keeps .first-backed),
+  sides-throughout c e _ (k .keeps .second-backed),
 )
 
 -- one yes or no agrees with both verdicts
