@@ -14,7 +14,7 @@ use Rattle.refusals.specs.Kept.{held, refused-is, passed-is, passed-limited, sh
 use Rattle.refusals.specs.declared.Accepted.{Accepted}
 use Rattle.refusals.specs.declared.Tested.{Tested}
 use Rattle.refusals.specs.declared.Tested.the-variants.{Passed, Refused}
-use Rattle.checker.specs.Asked.{ReportAsked, Filled}
+use Rattle.checker.specs.Asked.{Filled}
 
 module _ (j : Job) (before : Buffers (List ℕ)) where
   by : {o : Outcome} (x : Answer) (after : Buffers (List ℕ)) → outcome j (lengths before) ≡ o → FinishedBy j o before x after → Finished j before x after

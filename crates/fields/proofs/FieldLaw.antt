@@ -1,9 +1,9 @@
 -- Marks by the bytes that are read, and a field by its number and the byte behind it. Assumes nothing.
-use mathlib.Core.Path.{_≡_, refl, sym, _∙_}
-use Prim.Native.Nat.{ℕ, suc, _+_, _*_, _-_, _≤_, _<_}
+use mathlib.Core.Path.{_≡_, refl, _∙_}
+use Prim.Native.Nat.{ℕ, _+_, _*_, _-_, _≤_, _<_}
 use native.Mathlib.Omega.{arith}
-use mathlib.Core.Bool.{Bool, true, false, cond, not, _&&_, _||_}
-use mathlib.Core.List.{List, [], _∷_}
+use mathlib.Core.Bool.{true, false, cond}
+use mathlib.Core.List.{[], _∷_}
 use lib.ListN.{length, getD, drop}
 use lib.Dec.{eqb}
 use borrow.Author.Tests.{eq-eqb, ne-eqb, le-leb, lt-leb}
@@ -11,7 +11,6 @@ use Rattle.csl.specs.Text.{Text}
 use Rattle.csl.specs.Limits.{sheetDigits}
 use Rattle.csl.specs.Line.{comma, lineFeed}
 use Rattle.texts.specs.Digits.{numberAt}
-use Rattle.texts.specs.declared.Num.{Num}
 use Rattle.texts.specs.declared.Num.the-variants.{Value, Bad}
 use Rattle.fields.specs.Field.{fieldAt}
 use Rattle.fields.specs.Marks.{markAt, marksIn, marks-more, marks-last}

@@ -1,13 +1,13 @@
 -- The line at the start of a text: byte by byte, and as the first of its lines. Assumes nothing.
-use mathlib.Core.Path.{_≡_, refl, sym, ap, _∙_}
-use Prim.Native.Nat.{ℕ, zero, suc, _+_, _≤_, _<_}
+use mathlib.Core.Path.{_≡_, refl}
+use Prim.Native.Nat.{ℕ, suc}
 use native.Mathlib.Omega.{arith}
-use mathlib.Core.Bool.{Bool, true, false, cond, _&&_}
+use mathlib.Core.Bool.{Bool, true, false, cond}
 use mathlib.Core.List.{List, [], _∷_, headD, tail}
-use lib.ListN.{length, take, drop}
+use lib.ListN.{length, take}
 use lib.Dec.{eqb, ltb, leb·suc-suc}
-use borrow.Author.Tests.{eq-eqb, ne-eqb, lt-ltb, le-ltb, ltb-true, ltb-false}
-use Rattle.csl.specs.Text.{Text, every}
+use borrow.Author.Tests.{ne-eqb, lt-ltb}
+use Rattle.csl.specs.Text.{Text}
 use Rattle.csl.specs.Line.{lineFeed, comma, ahead, parts, fieldsOf}
 use Rattle.texts.specs.Span.{spanOf}
 
@@ -51,10 +51,6 @@ span-feed t = refl
 pub ended-nil : isEndedAt [] ≡ false
 unfolding isEndedAt spanOf
 ended-nil = refl
-
-pub line-nil : lineAt [] ≡ []
-unfolding lineAt spanOf
-line-nil = refl
 
 -- the fields of a line that begins with a comma, and with another byte
 pub fields-nil : fieldsOf [] ≡ [] ∷ []

@@ -2,17 +2,17 @@
 use mathlib.Core.Path.{_≡_, refl, sym, ap, _∙_}
 use Prim.Native.Nat.{ℕ, zero, suc, _+_, _*_, _-_, _≤_, _<_}
 use native.Mathlib.Omega.{arith}
-use mathlib.Core.Bool.{Bool, true, false, cond, _&&_, _||_, and-false, and-true, false≢true, and-eq-true-iff}
-use mathlib.Core.List.{List, [], _∷_, headD, tail}
+use mathlib.Core.Bool.{Bool, true, false, _&&_, _||_, and-false, and-true, false≢true, and-eq-true-iff}
+use mathlib.Core.List.{[], _∷_, headD, tail}
 use lib.ListN.{length, getD, drop}
 use lib.Dec.{eqb, eqb·suc-suc}
 use borrow.Author.Tests.{eqb-true, eqb-false, ne-eqb}
 use Rattle.csl.specs.Text.{Text, same, every}
-use Rattle.csl.specs.Line.{lineFeed, comma, ahead, fieldsOf}
+use Rattle.csl.specs.Line.{lineFeed, comma, ahead}
 use Rattle.csl.specs.Labels.{isMark}
 use Rattle.texts.specs.Span.{spanOf}
 use Rattle.fields.specs.Bools.{and-middle, and-swap}
-use Rattle.fields.specs.LineAt.{lineAt, isEndedAt, fieldsAt, line-feed, line-byte, line-nil, ended-feed, ended-byte, ended-nil, span-byte, span-feed, fields-nil, fields-comma, fields-byte, fields-some}
+use Rattle.fields.specs.LineAt.{lineAt, isEndedAt, fieldsAt, line-feed, line-byte, ended-feed, ended-byte, ended-nil, span-byte, span-feed, fields-nil, fields-comma, fields-byte, fields-some}
 
 -- a 0 or 1, and the byte `end` after it
 unfoldable pub markAt : ℕ → Text → Bool

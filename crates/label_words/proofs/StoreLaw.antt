@@ -3,28 +3,24 @@ use mathlib.Core.Path.{_≡_, refl, sym, ap, _∙_}
 use Prim.Native.Nat.{ℕ, zero, suc, _+_, _*_, _-_, _^_, _≤_, _<_}
 use native.Mathlib.Omega.{arith}
 use native.Mathlib.Numerals.{add-one}
-use mathlib.Core.Bool.{Bool, true, false, _&&_, true≢false, and-eq-true-iff}
-use mathlib.Core.List.{List, [], _∷_, headD, tail}
+use mathlib.Core.Bool.{true, true≢false}
+use mathlib.Core.List.{List, [], tail}
 use lib.ListN.{length, take, drop, getD, set, length-drop}
-use lib.Dec.{eqb}
-use borrow.Author.Tests.{eqb-true}
 use mir.Val.{Fits}
 use mir.Syntax.{w64}
-use Rattle.csl.specs.Text.{Text, every}
-use Rattle.csl.specs.Limits.{sheetDigits}
-use Rattle.csl.specs.Number.{isNumber}
-use Rattle.csl.specs.Line.{lineFeed, comma, linesOf, laterLines, firstLine, isEnded, fieldsOf}
-use Rattle.csl.specs.Labels.{stateLine, labelsLayout, namesOf, statesOf, isMark}
+use Rattle.csl.specs.Text.{Text}
+use Rattle.csl.specs.Line.{lineFeed, linesOf, laterLines, firstLine, fieldsOf}
+use Rattle.csl.specs.Labels.{stateLine, labelsLayout, namesOf, statesOf}
 use Rattle.texts.specs.Span.{spanOf}
 use Rattle.texts.specs.Cut.{rest-is, ended-cut, later-cut, later-none}
 use Rattle.texts.specs.declared.Num.{Num}
 use Rattle.texts.specs.declared.Num.the-variants.{Value, Bad}
-use Rattle.fields.specs.LineAt.{lineAt, isEndedAt, fieldsAt, fields-some}
+use Rattle.fields.specs.LineAt.{lineAt, fieldsAt, fields-some}
 use Rattle.fields.specs.Lines.{linesPass, nextLine, lines-are, lines-end, pass-more, pass-not}
 use Rattle.fields.specs.Places.{drop-here, drop-none}
 use Rattle.numbers.specs.Table.{Table, table-none, table-more, table-done}
 use Rattle.labels.specs.Row.{rowAt, RowFits}
-use Rattle.labels.specs.RowsLaw.{Told, told, untold}
+use Rattle.labels.specs.RowsLaw.{told, untold}
 use Rattle.label_words.specs.Left.{marksLeft, fieldsLeft}
 use Rattle.label_words.specs.Words.{marksWord, wordOf}
 use Rattle.labels.specs.RowLaw.{row-bare, row-tail}

@@ -1,16 +1,14 @@
 -- The word of marks, mark by mark. Assumes nothing.
-use mathlib.Core.Path.{_≡_, refl, sym, ap, _∙_}
+use mathlib.Core.Path.{_≡_, refl}
 use Prim.Native.Nat.{ℕ, zero, suc, _+_, _*_, _-_, _^_, _≤_, _<_}
 use native.Mathlib.Omega.{arith}
 use native.Mathlib.Nat.{pow-suc, pow-le-pow-right, sub-self}
-use mir.Val.{Fits}
-use mir.Syntax.{w64}
 use mathlib.Core.Bool.{Bool, true, false, cond, _&&_, and-true, and-eq-true-iff}
-use mathlib.Core.List.{List, [], _∷_}
+use mathlib.Core.List.{[], _∷_}
 use lib.ListN.{length, getD, drop}
-use lib.Dec.{eqb, ltb}
+use lib.Dec.{eqb}
 use borrow.Author.Tests.{ltb-true}
-use Rattle.csl.specs.Text.{Text, bytes, same, every}
+use Rattle.csl.specs.Text.{Text, same, every}
 use Rattle.csl.specs.Line.{lineFeed}
 use Rattle.csl.specs.Labels.{isMark}
 use Rattle.texts.specs.Span.{spanOf}

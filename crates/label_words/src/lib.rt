@@ -5,7 +5,6 @@ ghost use Prim.Native.Nat.{_≤_, _<_};
 ghost use mathlib.Core.Bool.{cond, true};
 ghost use lib.ListN.{length};
 ghost use lib.Dec.{eqb};
-ghost use Rattle.csl.specs.Line.{laterLines};
 ghost use Rattle.csl.specs.Labels.{labelsLayout, namesOf, statesOf};
 ghost use Rattle.numbers.specs.Table.{Table};
 ghost use Rattle.label_words.specs.Left.{marksLeft, fieldsLeft};

@@ -1,8 +1,6 @@
 -- What the refusals ask of the labels text, in document 01's definitions. Assumes nothing.
-use mathlib.Core.Path.{_≡_}
 use Prim.Native.Nat.{ℕ, suc, _+_}
 use mathlib.Core.Bool.{Bool, true, false, cond, _&&_}
-use mathlib.Core.List.{List}
 use lib.ListN.{length}
 use Rattle.csl.specs.Text.{Text}
 use Rattle.csl.specs.Line.{lineFeed, linesOf, laterLines}

@@ -1,8 +1,7 @@
 -- The state line at the start of a text. Assumes nothing.
-use mathlib.Core.Path.{_≡_}
-use Prim.Native.Nat.{ℕ, suc, _+_, _*_, _≤_, _<_}
+use Prim.Native.Nat.{ℕ, suc, _+_, _*_, _≤_}
 use mathlib.Core.Bool.{Bool, cond, _&&_}
-use mathlib.Core.List.{List, [], headD}
+use mathlib.Core.List.{[], headD}
 use lib.ListN.{drop}
 use Rattle.csl.specs.Text.{Text}
 use Rattle.csl.specs.Number.{valueOf}

@@ -1,25 +1,24 @@
 -- The state line at the start of a text, by its number and its marks. Assumes nothing.
-use mathlib.Core.Path.{_≡_, refl, sym, ap, _∙_}
+use mathlib.Core.Path.{_≡_, refl, sym, _∙_}
 use Prim.Native.Nat.{ℕ, zero, suc, _+_, _*_, _-_, _≤_, _<_}
 use native.Mathlib.Omega.{arith}
-use mathlib.Core.Bool.{Bool, true, false, cond, _&&_, _||_, and-false, and-true, and-eq-true-iff, false≢true, true≢false}
+use mathlib.Core.Bool.{Bool, true, false, cond, _&&_, _||_, and-false, and-eq-true-iff, false≢true, true≢false}
 use mathlib.Core.List.{List, [], _∷_, headD, tail}
 use lib.ListN.{length, drop}
-use lib.Dec.{eqb, ltb, eqb·suc-suc}
-use borrow.Author.Tests.{eq-eqb, ne-eqb, eqb-true, ltb-true}
-use Rattle.csl.specs.Text.{Text, bytes, same, every}
+use lib.Dec.{eqb, eqb·suc-suc}
+use borrow.Author.Tests.{ne-eqb, eqb-true, ltb-true}
+use Rattle.csl.specs.Text.{Text, same, every}
 use Rattle.csl.specs.Limits.{sheetDigits}
-use Rattle.csl.specs.Number.{isDigit, isNumber, zeroLed, valueOf}
-use Rattle.csl.specs.Line.{lineFeed, comma, fieldsOf}
+use Rattle.csl.specs.Number.{isNumber, zeroLed, valueOf}
+use Rattle.csl.specs.Line.{lineFeed, comma}
 use Rattle.csl.specs.Labels.{isMark, stateLine}
-use Rattle.texts.specs.Digits.{digitRun}
 use Rattle.texts.specs.Span.{spanOf}
 use Rattle.texts.specs.declared.Num.{Num}
 use Rattle.texts.specs.declared.Num.the-variants.{Value, Bad}
 use Rattle.fields.specs.LineAt.{lineAt, isEndedAt, fieldsAt}
 use Rattle.fields.specs.Field.{fieldAt}
 use Rattle.fields.specs.Marks.{marksIn, marks-bytes}
-use Rattle.fields.specs.Numbers.{numbersIn, numbers-more, numbers-last, thenIn, Reading, reading, comma-fields, comma-span, comma-ended, feed-fields, feed-span}
+use Rattle.fields.specs.Numbers.{numbersIn, numbers-more, numbers-last, thenIn, reading, comma-fields, comma-span, comma-ended, feed-fields, feed-span}
 use Rattle.labels.specs.Row.{rowIn, rowAt, restOf, RowFits}
 
 -- a mark is a number

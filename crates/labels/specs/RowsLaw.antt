@@ -1,26 +1,24 @@
 -- The state lines of a text, one by one, and the facts of the text. Assumes nothing.
-use mathlib.Core.Path.{_≡_, refl, sym, ap, _∙_}
-use Prim.Native.Nat.{ℕ, zero, suc, _+_, _*_, _≤_, _<_}
+use mathlib.Core.Path.{_≡_, refl, ap, _∙_}
+use Prim.Native.Nat.{ℕ, suc, _+_, _≤_, _<_}
 use native.Mathlib.Omega.{arith}
 use native.Mathlib.Numerals.{add-one}
 use mathlib.Core.Bool.{Bool, true, false, cond, _&&_, and-true, and-assoc, and-eq-true-iff}
-use mathlib.Core.List.{List, [], _∷_, headD, tail}
+use mathlib.Core.List.{[], _∷_, headD, tail}
 use lib.ListN.{length, take, drop}
 use lib.Dec.{eqb, eqb·suc-zero}
-use Rattle.csl.specs.Text.{Text, bytes, same, every}
+use Rattle.csl.specs.Text.{Text, same, every}
 use Rattle.csl.specs.Number.{valueOf}
-use Rattle.csl.specs.Line.{lineFeed, linesOf, laterLines, firstLine, isEnded, fieldsOf, parts}
+use Rattle.csl.specs.Line.{lineFeed, linesOf, isEnded, fieldsOf, parts}
 use Rattle.csl.specs.Labels.{stateLine, inTurn, namesOf, labelsHead, labelsLayout, statesOf}
 use Rattle.texts.specs.Span.{spanOf}
 use Rattle.texts.specs.Cut.{ended-cut, ended-none, first-cut, first-none, later-cut, later-none}
-use Rattle.texts.specs.declared.Num.{Num}
 use Rattle.texts.specs.declared.Num.the-variants.{Value, Bad}
 use Rattle.fields.specs.LineAt.{lineAt, isEndedAt, fieldsAt, fields-some}
 use Rattle.fields.specs.Lines.{linesPass, nextLine, lines-are, lines-end, pass-more, pass-not, pass-end}
 use Rattle.names.specs.Names.{commasIn, headLine, head-line, commas-fields}
 use Rattle.labels.specs.Row.{rowIn, rowAt}
 use Rattle.labels.specs.Facts.{rowsAt, broken, bare, factsOf, factsFrom}
-use Rattle.labels.specs.declared.Facts.{Facts}
 use Rattle.labels.specs.declared.Rows.{Rows}
 use Rattle.labels.specs.declared.Rows.the-variants.{Lines, Broken}
 

@@ -1,12 +1,9 @@
 // The labels text: what its lines say, for the refusals; and its marks as words, a bit for each label.
 use texts::Num;
 ghost use mathlib.Core.Path.{_≡_};
-ghost use Prim.Native.Nat.{_+_, _*_, _≤_, _<_};
+ghost use Prim.Native.Nat.{_+_, _≤_, _<_};
 ghost use mathlib.Core.Bool.{cond, true};
 ghost use lib.ListN.{length};
-ghost use Rattle.csl.specs.Line.{laterLines};
-ghost use Rattle.csl.specs.Labels.{labelsLayout, namesOf};
-ghost use Rattle.numbers.specs.Table.{Table};
 ghost use Rattle.labels.specs.Row.{rowAt, RowFits, restOf};
 ghost use Rattle.labels.specs.Facts.{rowsAt, bare, broken, factsFrom, factsOf};
 

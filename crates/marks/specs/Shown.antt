@@ -1,14 +1,11 @@
 -- The verdicts that a row shows, and how they follow from those of other rows. Assumes nothing.
-use mathlib.Core.Path.{_≡_, refl, ap, _∙_}
-use mathlib.Core.Bool.{Bool, true, false}
+use mathlib.Core.Path.{_≡_, ap, _∙_}
 use mathlib.Core.List.{List}
 use Prim.Native.Nat.{ℕ, _+_, _*_, _-_, _/_, _%_, _^_, _≤_, _<_}
 use native.Mathlib.Omega.{arith}
 use native.Mathlib.Nat.{mul-le-mul-right, suc-mul}
-use lib.ListN.{getD, take, drop}
-use lib.Seq.{getD-take, getD-drop}
-use lib.Dec.{ltb, eqb}
-use borrow.Author.Tests.{ltb-true, ltb-false}
+use lib.ListN.{getD}
+use lib.Dec.{eqb}
 use Rattle.csl.specs.Formula.{Comparison}
 use Rattle.csl.specs.Verdicts.{Verdict, Yes, marked, negation, conjunction, judged}
 use Rattle.csl.specs.Lent.{verdictByte}
@@ -25,15 +22,6 @@ pub row-apart : (n a b : ℕ) → a < b → a * n + n ≤ b * n
 row-apart n a b h = omega (arith, mul-le-mul-right n h, suc-mul a n)
 
 module _ (n slot : ℕ) (old new : List ℕ) where
-  -- the rows of other slots show what they showed
-  pub shows-kept : (f : ℕ → ℕ) (v : ℕ → Verdict) (other : ℕ) → RowIs f slot n old new → (other ≡ slot → ⊥) → Shows old other n v → Shows new other n v
-  shows-kept f v other r d h s b = ap verdictAt (go (ltb other slot) refl) ∙ h s b where
-    go : (t : Bool) → ltb other slot ≡ t → getD new (other * n + s) 0 ≡ getD old (other * n + s) 0
-    go true e = r .before (other * n + s) (omega (arith, row-apart n other slot (ltb-true other slot e)))
-    go false e =
-        let g : slot < other = omega (arith, ltb-false other slot e) in
-        r .beyond (other * n + s) (omega (arith, row-apart n slot other g))
-
   -- the row that was filled
   pub shows-filled : (v : ℕ → Verdict) → RowIs (λ s. verdictByte (v s)) slot n old new → Shows new slot n v
   shows-filled v r s b = ap verdictAt (r .row s b) ∙ byte-read (v s)
@@ -66,8 +54,3 @@ module _ (n slot : ℕ) (old new : List ℕ) where
       → Shows new slot n (λ s. judged c p (getD words s 0) (getD words (n + s) 0))
   unfolding judgedByte
   shows-judged words c p r = shows-filled (λ s. judged c p (getD words s 0) (getD words (n + s) 0)) r
-
--- the row of a slot as a part of the buffer
-pub shows-part : (l : List ℕ) (slot n : ℕ) (v : ℕ → Verdict) → Shows l slot n v
-    → (s : ℕ) → s < n → verdictAt (getD (take n (drop (slot * n) l)) s 0) ≡ v s
-shows-part l slot n v h s b = rw (getD-take n (drop (slot * n) l) s 0 b, getD-drop (slot * n) l s 0) (h s b)

@@ -1,17 +1,16 @@
 -- A tally against document 01's definitions. Assumes nothing.
 use mathlib.Core.Path.{_≡_, refl, sym, ap, _∙_}
-use Prim.Native.Nat.{ℕ, zero, suc, _+_, _*_, _≤_, _<_}
+use Prim.Native.Nat.{ℕ, _+_, _≤_, _<_}
 use native.Mathlib.Omega.{arith}
-use mathlib.Core.Bool.{Bool, true, false, cond, not, _&&_, _||_, or-assoc, or-false, or-true, and-false, and-true}
-use mathlib.Core.List.{List, [], _∷_, map}
+use mathlib.Core.Bool.{Bool, true, false, not, _&&_, _||_, or-assoc, or-false}
+use mathlib.Core.List.{List, [], _∷_}
 use lib.ListN.{length}
 use lib.Dec.{leb, ltb, eqb}
-use borrow.Author.Tests.{lt-ltb, le-ltb, eq-eqb, ne-eqb, ltb-true, ltb-false, eqb-true, eqb-false}
-use Rattle.csl.specs.Text.{Text, any}
-use Rattle.csl.specs.Limits.{mostRate}
-use Rattle.csl.specs.Moves.{Move, isBefore, isRising, ratesOut}
-use Rattle.moves.specs.Tally.{begun, added, placeIn, sumAfter, tallied}
-use Rattle.moves.specs.Facts.{namesStrange, hasOwn, hasWrongRate}
+use borrow.Author.Tests.{lt-ltb, le-ltb, ltb-true, ltb-false, eqb-true, eqb-false}
+use Rattle.csl.specs.Text.{any}
+use Rattle.csl.specs.Moves.{Move, isBefore, isRising}
+use Rattle.moves.specs.Tally.{begun, added, placeIn, tallied}
+use Rattle.moves.specs.Facts.{namesStrange, hasOwn}
 use Rattle.moves.specs.declared.Tally.{Tally}
 
 module _ (n : ℕ) where

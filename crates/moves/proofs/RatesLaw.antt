@@ -1,19 +1,18 @@
 -- The rates of rising moves, run by run. Assumes nothing.
-use mathlib.Core.Path.{_≡_, refl, sym, ap, _∙_}
-use Prim.Native.Nat.{ℕ, zero, suc, _+_, _*_, _≤_, _<_, max}
+use mathlib.Core.Path.{_≡_, refl, sym, _∙_}
+use Prim.Native.Nat.{ℕ, _+_, _≤_, _<_, max}
 use native.Mathlib.Omega.{arith}
 use native.Mathlib.Nat.{le-refl}
-use mathlib.Core.Bool.{Bool, true, false, cond, not, _&&_, _||_, or-false, or-true, and-eq-true-iff}
+use mathlib.Core.Bool.{Bool, true, false, cond, _&&_, _||_, or-false, or-true, and-eq-true-iff}
 use mathlib.Core.List.{List, [], _∷_}
 use mathlib.Core.Logic.{⊎-elim}
 use Rattle.csl.specs.Laws.Rates.{topFrom, left-or-none}
-use lib.ListN.{length}
-use lib.Dec.{leb, ltb, eqb}
-use borrow.Author.Tests.{lt-ltb, le-ltb, eq-eqb, ne-eqb, ltb-true, ltb-false, eqb-true, eqb-false}
+use lib.Dec.{ltb, eqb}
+use borrow.Author.Tests.{lt-ltb, eq-eqb, ne-eqb, ltb-true, ltb-false, eqb-true, eqb-false}
 use Rattle.csl.specs.Text.{any}
 use Rattle.csl.specs.Limits.{mostRate}
 use Rattle.csl.specs.Moves.{Move, isBefore, isRising, ratesOut}
-use Rattle.moves.specs.Tally.{begun, added, sumAfter, tallied}
+use Rattle.moves.specs.Tally.{begun, added, tallied}
 use Rattle.moves.specs.Facts.{hasWrongRate}
 use Rattle.moves.specs.declared.Tally.{Tally}
 

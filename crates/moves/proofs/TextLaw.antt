@@ -1,16 +1,15 @@
 -- The facts of a moves text, from the tally of its lines. Assumes nothing.
-use mathlib.Core.Path.{_≡_, refl, sym, ap, _∙_}
+use mathlib.Core.Path.{_≡_, refl}
 use Prim.Native.Nat.{ℕ, zero, suc, _+_, _≤_, _<_}
 use native.Mathlib.Omega.{arith}
-use mathlib.Core.Bool.{Bool, true, false, cond, not, _&&_, _||_, Bool·not-not, and-eq-true-iff, and-false}
+use mathlib.Core.Bool.{Bool, true, false, cond, not, _&&_, _||_, Bool·not-not, and-eq-true-iff}
 use mathlib.Core.List.{List, [], _∷_, map}
 use lib.ListN.{length, take, drop, getD}
-use lib.Dec.{eqb, ltb}
-use borrow.Author.Tests.{eq-eqb, ne-eqb}
+use lib.Dec.{eqb}
 use Rattle.csl.specs.Text.{Text, bytes, same, every, any}
 use Rattle.csl.specs.Limits.{sheetDigits}
 use Rattle.csl.specs.Number.{isNumber, valueFrom, valueOf}
-use Rattle.csl.specs.Line.{lineFeed, linesOf, laterLines, firstLine, isEnded, fieldsOf}
+use Rattle.csl.specs.Line.{lineFeed, linesOf, isEnded, fieldsOf}
 use Rattle.csl.specs.Moves.{Move, moveLine, moveOf, fieldValue, movesHead, movesLayout, movesOf, isRising, ratesOut}
 use Rattle.texts.specs.Span.{spanOf}
 use Rattle.texts.specs.Cut.{ended-cut, ended-none, first-cut, first-none, later-cut, later-none}
@@ -18,8 +17,7 @@ use Rattle.fields.specs.Numbers.{number-below}
 use Rattle.fields.specs.Lines.{linesPass, nextLine}
 use Rattle.csl.specs.Laws.Rates.{topFrom}
 use Rattle.moves.specs.Tally.{begun, tallied, talliedFrom}
-use Rattle.moves.specs.Facts.{namesStrange, hasOwn, hasWrongRate, broken, bare, factsIn, factsOf, factsFrom}
-use Rattle.moves.specs.declared.Facts.{Facts}
+use Rattle.moves.specs.Facts.{hasWrongRate, broken, bare, factsIn, factsOf, factsFrom}
 use Rattle.moves.specs.declared.Tallied.{Tallied}
 use Rattle.moves.specs.declared.Tallied.the-variants.{Lines, Broken}
 use Rattle.moves.proofs.FactsLaw.{count-is, strange-is, own-is, falls-or-rises, Small, AllSmall, none, one}

@@ -1,8 +1,6 @@
 -- The move line at the start of a text. Assumes nothing.
-use mathlib.Core.Path.{_≡_}
 use Prim.Native.Nat.{ℕ, _+_, _≤_, _<_}
 use mathlib.Core.Bool.{cond, _&&_}
-use mathlib.Core.List.{List}
 use Rattle.csl.specs.Text.{Text}
 use Rattle.csl.specs.Line.{lineFeed}
 use Rattle.csl.specs.Moves as csl

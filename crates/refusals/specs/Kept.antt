@@ -98,8 +98,7 @@ pub record Held (j : Job) : Type 0 where
   pub word-before : 5 ≤ spanOf lineFeed (j .labels)
   pub line-ends : spanOf lineFeed (j .labels) < length (j .labels)
   pub names-behind : partsBehind comma (take (spanOf lineFeed (j .labels) - 5) (drop 5 (j .labels))) ≡ namesOf (j .labels)
-  -- the formula that the text spells, and its store
-  pub formula-read : readFormula (j .formula) ≡ some (jobFormula j)
+  -- the store of the formula that the text spells
   pub store-is : storeOf (namesOf (j .labels)) (readFormula (j .formula)) ≡ stored (namesOf (j .labels)) (jobFormula j)
 
 module _ (j : Job) (p : csl.Passed j) where
@@ -137,7 +136,6 @@ held j h =
       word-before = line.word-before (j .labels) (labels-head p);
       line-ends = line.line-ends (j .labels) (labels-head p);
       names-behind = line.names-behind (j .labels) (labels-head p);
-      formula-read = formula-right j p;
       store-is = store-right j p;
     }
 

@@ -1,10 +1,10 @@
 -- Laws of a column, f 0 to f (n - 1), and of a buffer whose first numbers are written over. Assumes nothing.
-use mathlib.Core.Path.{_≡_, refl, ap, _∙_}
-use mathlib.Core.List.{List, [], _∷_, _++_}
-use Prim.Native.Nat.{ℕ, zero, suc, _+_, _-_, _≤_, _<_}
+use mathlib.Core.Path.{_≡_, refl, _∙_}
+use mathlib.Core.List.{List, [], _∷_}
+use Prim.Native.Nat.{ℕ, zero, suc, _-_, _≤_, _<_}
 use native.Mathlib.Omega.{arith}
 use lib.ListN.{length, getD, drop, length-append, length-drop, List·getD-append}
-use lib.Seq.{getD-at, getD-append-add, getD-drop}
+use lib.Seq.{getD-at}
 use borrow.Author.Count.{below-more}
 use Rattle.csl.specs.Lent.{column, written}
 
@@ -39,13 +39,3 @@ pub written-at : (f : ℕ → ℕ) (n : ℕ) (old : List ℕ) (s : ℕ) → s < 
 unfolding written
 written-at f n old s h =
     List·getD-append (column f n) _ 0 s (omega (arith, column-length f n)) ∙ column-at f n s h
-
-pub written-beyond : (f : ℕ → ℕ) (n : ℕ) (old : List ℕ) (s : ℕ) → n ≤ s → getD (written (column f n) old) s 0 ≡ getD old s 0
-unfolding written
-written-beyond f n old s h =
-    let e : s ≡ length (column f n) + (s - n) = omega (arith, column-length f n) in
-    let k : length (column f n) + (s - n) ≡ s = omega arith in
-    ap (λ (i : ℕ). getD (column f n ++ drop (length (column f n)) old) i 0) e
-    ∙ getD-append-add (column f n) (drop (length (column f n)) old) (s - n) 0
-    ∙ getD-drop (length (column f n)) old (s - n) 0
-    ∙ ap (λ (i : ℕ). getD old i 0) k

@@ -1,7 +1,7 @@
 -- Conditions 2 to 9, in their order, by the facts of the two texts. Assumes nothing.
 use mathlib.Core.Path.{_≡_}
-use Prim.Native.Nat.{ℕ, _≤_, _<_}
-use mathlib.Core.Bool.{Bool, true, false, not, _&&_, _||_}
+use Prim.Native.Nat.{_≤_, _<_}
+use mathlib.Core.Bool.{true, false, not, _&&_, _||_}
 use lib.Dec.{ltb, eqb}
 use borrow.Author.Tests.{lt-ltb, le-ltb}
 use Rattle.csl.specs.Refusal.{firstOf}

@@ -1,11 +1,7 @@
 // Conditions 1 to 9 of document 01's refusals, which two sheet texts and a formula's length decide, in their order.
 ghost use mathlib.Core.Path.{_≡_};
-ghost use Prim.Native.Nat.{_≤_};
 ghost use mathlib.Core.Bool.{_||_};
-ghost use lib.ListN.{length};
 ghost use lib.Dec.{eqb, ltb};
-ghost use Rattle.csl.specs.Limits.{sheetBytes};
-ghost use Rattle.csl.specs.Refusal.{Job};
 ghost use Rattle.sheet.specs.Checked.{judged, checkedOf};
 
 // What a sheet that is not turned back has: its states, moves and names, the bytes of its labels' first line, and the greatest sum of rates

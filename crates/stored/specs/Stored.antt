@@ -1,16 +1,16 @@
 -- Words that hold the moves of a sheet, one for each line in its order: they show the sheet's chain, and are what the engine asks of words.
 -- Assumes nothing.
-use mathlib.Core.Path.{_≡_, refl, ap, sym, _∙_}
+use mathlib.Core.Path.{_≡_, refl, sym, _∙_}
 use mathlib.Core.Bool.{Bool, true, false, cond, _&&_}
 use mathlib.Core.List.{List}
 use Prim.Native.Nat.{ℕ, _≤_, _<_}
 use native.Mathlib.Omega.{arith}
-use lib.ListN.{length, getD}
+use lib.ListN.{length}
 use lib.Dec.{eqb}
 use Rattle.csl.specs.Text.{Text}
 use Rattle.csl.specs.Limits.{mostStates, mostMoves, mostRate}
 use Rattle.csl.specs.Moves.{Move, movesOf, isRising, rateIn, ratesOut}
-use Rattle.csl.specs.Chain.{Chain, chainOf, sumTo, away}
+use Rattle.csl.specs.Chain.{chainOf}
 use Rattle.csl.specs.Laws.Sum.{sum-cong}
 use Rattle.csl.specs.Laws.Rates.{Within, Apart, away-by-lines}
 use Rattle.packing.specs.Packed.{packedMove, to-packed, from-packed, rate-packed}

@@ -1,16 +1,16 @@
 -- How the parts, lines and fields of a text are cut off its start, by `spanOf`. Assumes nothing.
-use mathlib.Core.Path.{_≡_, refl, sym, _∙_, ap}
-use Prim.Native.Nat.{ℕ, zero, suc, _+_, _-_, _≤_, _<_}
+use mathlib.Core.Path.{_≡_, refl, sym, _∙_}
+use Prim.Native.Nat.{ℕ, suc, _+_, _-_, _≤_, _<_}
 use native.Mathlib.Omega.{arith}
 use native.Mathlib.Numerals.{add-one}
 use mathlib.Core.Bool.{Bool, true, false, cond}
-use mathlib.Core.List.{List, [], _∷_, headD, tail}
+use mathlib.Core.List.{List, [], _∷_, headD}
 use lib.ListN.{length, take, drop, getD, drop-of-length-le, length-drop}
 use lib.Seq.{drop-cons, take-all}
 use lib.Dec.{eqb, eqb·suc-zero}
-use borrow.Author.Tests.{eq-eqb, ne-eqb, eqb-true, eqb-false}
+use borrow.Author.Tests.{eqb-true}
 use Rattle.csl.specs.Text.{Text}
-use Rattle.csl.specs.Line.{lineFeed, comma, ahead, parts, endedParts, noRemnant, linesOf, isEnded, firstLine, laterLines, fieldsOf}
+use Rattle.csl.specs.Line.{lineFeed, ahead, parts, endedParts, noRemnant, linesOf, isEnded, firstLine, laterLines}
 use Rattle.texts.specs.Span.{spanOf}
 
 -- what the part `&s[a..]` holds
@@ -108,12 +108,3 @@ first-none t h = rw (lines-none t h)
 pub later-none : (t : Text) → length t ≤ spanOf lineFeed t → laterLines t ≡ []
 unfolding laterLines
 later-none t h = rw (lines-none t h)
-
--- the fields of a line
-pub fields-cut : (s : Text) → spanOf comma s < length s → fieldsOf s ≡ take (spanOf comma s) s ∷ fieldsOf (drop (spanOf comma s + 1) s)
-unfolding fieldsOf
-fields-cut s h = parts-cut comma s h
-
-pub fields-whole : (s : Text) → length s ≤ spanOf comma s → fieldsOf s ≡ s ∷ []
-unfolding fieldsOf
-fields-whole s h = parts-whole comma s h

@@ -2,4 +2,3 @@
 pub mod Place
 pub mod Writing
 pub mod Decimal
-pub mod Value
