@@ -6,7 +6,7 @@ use mathlib.Core.List.{List, tail}
 use Rattle.csl.specs.Text.{Text, bytes}
 use Rattle.csl.specs.Line.{space}
 use Rattle.csl.specs.Formula as csl
-use Rattle.csl.specs.Grammar.{Found, nothing, found, andThen, onComparison, onNumber, onWord, pair, path, chance, state, headOf}
+use Rattle.csl.specs.Grammar.{Found, nothing, found, andThen, onComparison, onNumber, onWord, pair, path, state}
 use Rattle.grammar.specs.Fixed.{read}
 use Rattle.values.specs.Paper.{comparisonOf}
 use Rattle.values.specs.declared.comparison.Comparison.{Comparison}
@@ -23,10 +23,10 @@ use Rattle.survey.specs.declared.Size.the-variants.{Read, Wrong}
 use Rattle.store.specs.declared.Kind.{Kind}
 use Rattle.store.specs.declared.Kind.the-variants as kind
 use Rattle.formula.specs.Listed.{held}
-use Rattle.formula.specs.Listing.{nodesFound, nodesAt, hollow, chanceKind, headKind, topKind}
+use Rattle.formula.specs.Listing.{nodesFound, nodesAt, hollow, behindHead, chanceKind, headKind}
 use Rattle.tokens.specs.Head.{headMeant}
 use Rattle.tokens.specs.declared.Head.{Head}
-use Rattle.tokens.specs.declared.Head.the-variants.{Ampersand}
+use Rattle.tokens.specs.declared.Head.the-variants.{Ampersand, Chance}
 
 -- the size that was read has the nodes
 module _ (s : Text) (a : Size) (is : a ≡ sizeOf (read (tokens s))) where
@@ -74,9 +74,21 @@ module _ (s : Text) (i : ℕ) (b : Bound)
 pub ruleset chance-laws = (chance-unbound, chance-endless, chance-whole)
 
 -- h is the kind of the first token w
-module _ (names : List Text) (i : ℕ) (w : Text) (ts : List Text) (h : Head) (meant : headMeant h ≡ headOf w) where
-  pub top-is : (g : Head) (k : Kind) → h ≡ g → k ≡ headKind names i w (headMeant g) ts → k ≡ topKind names i w ts
-  top-is g k e q = rw (← meant, e) q
+module _ (names : List Text) (i : ℕ) (w : Text) (ts : List Text) (h : Head) where
+  pub top-is : (g : Head) (k : Kind) → h ≡ g → k ≡ headKind names i w (headMeant g) ts → k ≡ headKind names i w (headMeant h) ts
+  top-is g k e q = rw e q
 
-  pub top-both : (n first second : ℕ) → h ≡ Ampersand → n ≡ nodesAt ts → first ≡ i - 1 → second ≡ i - suc n → kind.Both first second ≡ topKind names i w ts
-  top-both n first second e q x y = rw (← meant, e, x, y, q)
+  pub top-both : (n first second : ℕ) → h ≡ Ampersand → n ≡ nodesAt ts → first ≡ i - 1 → second ≡ i - suc n
+      → kind.Both first second ≡ headKind names i w (headMeant h) ts
+  top-both n first second e q x y = rw (e, x, y, q)
+
+-- and s the rest behind it
+module _ (h : Head) (s : Text) where
+  pub own-plain : (g : Head) → h ≡ g → tokens s ≡ behindHead (headMeant g) (tokens s) → tokens s ≡ behindHead (headMeant h) (tokens s)
+  own-plain g e q = rw e q
+
+  pub own-chance : (t u : Text) → h ≡ Chance → t ≡ afterPart space (afterPart space s) → u ≡ afterPart space (afterPart space t)
+      → tokens u ≡ behindHead (headMeant h) (tokens s)
+  own-chance t u e q r = rw (e, two-tail s t q, two-tail t u r)
+
+pub ruleset top-laws = (top-is, top-both, own-plain, own-chance)

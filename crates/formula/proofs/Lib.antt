@@ -1,6 +1,5 @@
 -- Laws behind the proofs of `formula`.
 pub mod PlaceLaw
 pub mod KindLaw
-pub mod NextLaw
 pub mod LayLaw
 pub mod BuildLaw

@@ -1,15 +1,13 @@
 -- The same row of nodes, from the tokens one by one: each token that begins a state formula is a node. Assumes nothing.
 use Prim.Native.Nat.{ℕ, zero, suc, _-_}
 use mathlib.Core.List.{List, [], _∷_, _++_, headD, tail}
-use lib.ListN.{length, replicate}
+use lib.ListN.{replicate}
 use Rattle.csl.specs.Text.{Text}
 use Rattle.csl.specs.Limits.{mostNodes}
-use Rattle.csl.specs.Line.{space, parts}
 use Rattle.csl.specs.Labels.{placeOf}
 use Rattle.csl.specs.Formula.{always, nodes}
 use Rattle.csl.specs.Grammar.{Found, nothing, found, Reader, Head, truth, name, bang, ampersand, chance, other, headOf, state}
 use Rattle.grammar.specs.Fixed.{read}
-use Rattle.tokens.specs.Behind.{bytesOf}
 use Rattle.store.specs.declared.Kind.{Kind}
 use Rattle.store.specs.declared.Kind.the-variants as kind
 use Rattle.store.specs.declared.Node.{Node}
@@ -63,10 +61,6 @@ unfoldable pub listing : List Text → ℕ → List Text → List Node
 listing names zero ts = []
 listing names (suc i) ts =
     listing names i (behindHead (headOf (headD ts [])) (tail ts)) ++ (node (topKind names i (headD ts []) (tail ts)) ∷ [])
-
--- where the next node's first token begins, in what is left of a line from one node on
-unfoldable pub nextHead : Text → ℕ
-nextHead t = length t - (bytesOf (behindHead (headOf (headD (parts space t) [])) (tail (parts space t))) - 1)
 
 -- a store of so many nodes
 unfoldable pub laid : List Text → ℕ → List Text → Store

@@ -9,13 +9,13 @@ use survey::Size;
 use tokens::Head;
 ghost use mathlib.Core.Path.{_≡_};
 ghost use Prim.Native.Nat.{_≤_, _-_, suc};
-ghost use lib.ListN.{length};
 ghost use Rattle.csl.specs.Line.{space, comma, parts};
 ghost use Rattle.csl.specs.Labels.{placeOf};
-ghost use Rattle.csl.specs.Grammar.{headOf, readFormula};
-ghost use Rattle.tokens.specs.Behind.{tokens, partsBehind, bytesOf};
+ghost use Rattle.csl.specs.Grammar.{readFormula};
+ghost use Rattle.tokens.specs.Behind.{tokens, partsBehind};
+ghost use Rattle.tokens.specs.Head.{headMeant};
 ghost use Rattle.formula.specs.Listed.{storeOf};
-ghost use Rattle.formula.specs.Listing.{nodesAt, behindHead, topKind, chanceKind, nextHead, laid};
+ghost use Rattle.formula.specs.Listing.{nodesAt, behindHead, headKind, chanceKind, laid};
 
 // The place of a name among names, each behind a comma: past the last where it is none of them.
 pub fn place(names: &[u8], w: &[u8]) -> usize
@@ -24,12 +24,12 @@ pub fn place(names: &[u8], w: &[u8]) -> usize
     let mut t = names;
     let mut i: usize = 0;
     while 0 < t.len() {
-        let n = texts::span(&t[1..], 44);
-        if texts::same(&t[1..n + 1], w) {
+        if texts::same(tokens::part(t, 44), w) {
             return i;
         }
         i += 1;
-        t = &t[n + 1..];
+        let u = tokens::after(t, 44);
+        t = u;
     }
     i
 }
@@ -75,12 +75,12 @@ fn chance_kind(s: &[u8], i: usize) -> Kind
     }
 }
 
-// The node i whose first token is w, and s the rest behind it. Its first operand is the node before it, its second the node before all of
-// the first operand's.
-fn top_kind(w: &[u8], s: &[u8], names: &[u8], i: usize) -> Kind
-    ensures { λ r. ⌜ r ≡ topKind (partsBehind comma (now (names .entry))) i (now (w .entry)) (tokens (now (s .entry))) ⌝ }
+// The node i whose first token is w, of this kind, and s the rest behind it. Its first operand is the node before it, its second the node
+// before all of the first operand's.
+fn top_kind(head: Head, w: &[u8], s: &[u8], names: &[u8], i: usize) -> Kind
+    ensures { λ r. ⌜ r ≡ headKind (partsBehind comma (now (names .entry))) i (now (w .entry)) (headMeant head) (tokens (now (s .entry))) ⌝ }
 {
-    match tokens::read_head(w) {
+    match head {
         Head::Other => Kind::Always,
         Head::Truth => Kind::Always,
         Head::Name => Kind::Label(place(names, w)),
@@ -90,36 +90,20 @@ fn top_kind(w: &[u8], s: &[u8], names: &[u8], i: usize) -> Kind
     }
 }
 
-// How many bytes stand behind a node's own tokens; w is the first, and s the rest behind that.
-fn left_behind(w: &[u8], s: &[u8]) -> usize
-    ensures { λ r. ⌜ r ≡ bytesOf (behindHead (headOf (now (w .entry))) (tokens (now (s .entry)))) ⌝ }
-    ensures within { λ r. ⌜ r ≤ length (now (s .entry)) ⌝ }
+// The rest behind a node's own tokens; s is the rest behind the first, which is of this kind.
+fn behind_own<'a>(head: Head, s: &'a [u8]) -> &'a [u8]
+    ensures { λ r. ⌜ tokens (now r) ≡ behindHead (headMeant head) (tokens (now (s .entry))) ⌝ }
 {
-    match tokens::read_head(w) {
+    match head {
+        Head::Other => s,
+        Head::Truth => s,
+        Head::Name => s,
+        Head::Bang => s,
+        Head::Ampersand => s,
         Head::Chance => {
             let t = tokens::after_two(s);
-            let u = tokens::after_two(t);
-            u.len()
+            tokens::after_two(t)
         }
-        Head::Other => s.len(),
-        Head::Truth => s.len(),
-        Head::Name => s.len(),
-        Head::Bang => s.len(),
-        Head::Ampersand => s.len(),
-    }
-}
-
-// Where the next node's first token begins, in what is left of a line from one node on: at its end where there is none.
-fn next(t: &[u8]) -> usize
-    ensures { λ r. ⌜ r ≡ nextHead (now (t .entry)) ⌝ }
-    ensures within { λ r. ⌜ r ≤ length (now (t .entry)) ⌝ }
-{
-    let n = texts::span(t, 32);
-    let left = left_behind(&t[..n], &t[n..]);
-    if left == 0 {
-        t.len()
-    } else {
-        t.len() - (left - 1)
     }
 }
 
@@ -130,15 +114,19 @@ fn lay(line: &[u8], names: &[u8], count: usize) -> Store
 {
     let mut store = EMPTY;
     store.count = count;
-    let mut t = line;
+    let mut w = tokens::first_part(line, 32);
+    let mut s = tokens::behind_first(line, 32);
     let mut i = count;
     while 0 < i {
         i -= 1;
-        let n = texts::span(t, 32);
-        let kind = top_kind(&t[..n], &t[n..], names, i);
+        let head = tokens::read_head(w);
+        let kind = top_kind(head, w, s, names, i);
         store.nodes[i] = Node { kind: kind };
-        let m = next(t);
-        t = &t[m..];
+        let rest = behind_own(head, s);
+        let v = tokens::part(rest, 32);
+        let t = tokens::after(rest, 32);
+        w = v;
+        s = t;
     }
     store
 }

@@ -12,6 +12,7 @@ use Rattle.csl.specs.Grammar.{Found, nothing, found, andThen, onComparison, onN
 use Rattle.grammar.specs.Fixed.{read, read-next}
 use Rattle.values.specs.Paper.{comparisonOf}
 use Rattle.values.specs.declared.comparison.Comparison.{Comparison}
+use Rattle.texts.specs.Span.{spanOf}
 use Rattle.tokens.specs.Behind.{tokens, afterPart, partsBehind, behind-tail, behind-shorter, bytes-behind, two-within, two-tail}
 use Rattle.tokens.specs.Head.{headMeant, HeadFits}
 use Rattle.tokens.specs.declared.Head.{Head}
@@ -77,7 +78,7 @@ module _ (w s : Text) (h : Head) (told : (headMeant h ≡ headOf w) × HeadFits 
 
 -- w is the first token of the rest s, and t what is behind it
 pub state-read : (s w t : Text) (r : Size) → w ≡ headD (tokens s) [] → t ≡ afterPart space s → Headed w t r → Stated s r
-unfolding partsBehind headD afterPart
+unfolding partsBehind headD afterPart spanOf
 state-read s w t r e f q = ((q .0 ∙ rw (e, f, ← behind-tail space s) (sym (ap sizeOf (read-next (tokens s))))), go s (rw (e, f) at (q .1)))
   where
     go : (v : Text) → SizeFits r (1 + (length (headD (tokens v) []) + length (afterPart space v))) → SizeFits r (length v)

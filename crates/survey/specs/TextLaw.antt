@@ -15,7 +15,7 @@ use Rattle.csl.specs.Grammar.{Found, nothing, found, whole, tokensOf, readFormu
 use Rattle.grammar.specs.Fixed.{read, read-next}
 use Rattle.texts.specs.Span.{spanOf}
 use Rattle.texts.specs.Cut.{lines-cut, ended-cut, lines-none, ended-none, first-cut}
-use Rattle.tokens.specs.Behind.{tokens, bytesOf, parts-first}
+use Rattle.tokens.specs.Behind.{tokens, bytesOf, behindFirst, parts-first}
 use Rattle.survey.specs.Size.{sizeOf, extentOf}
 use Rattle.survey.specs.declared.Size.{Size}
 use Rattle.survey.specs.declared.Size.the-variants.{Read, Wrong}
@@ -110,10 +110,9 @@ module _ (t : Text) (n : ℕ) (span : n ≡ spanOf lineFeed t) where
         go (found f []) q = let x : 0 ≡ l = cc in absurd (z (sym x))
         go (found f (w ∷ ts)) q = refl
 
--- the first token of a line, and the rest behind it
-pub line-read : (t : Text) (n : ℕ) (r : Size) → n ≡ spanOf space t
-    → r ≡ sizeOf (state read (take n t) (headOf (take n t)) (tokens (drop n t))) → r ≡ sizeOf (read (parts space t))
-unfolding headD
-line-read t n r e q = q ∙ rw (parts-first space t, ← e, read-next)
+-- w is the first token of a line, and s the rest behind it
+pub line-read : (t w s : Text) (r : Size) → w ≡ headD (parts space t) [] → s ≡ behindFirst space t
+    → r ≡ sizeOf (state read w (headOf w) (tokens s)) → r ≡ sizeOf (read (parts space t))
+line-read t w s r e f q = q ∙ rw (e, f, read-next, parts-first)
 
-pub ruleset text-laws = (text-other, text-wrong, text-read, text-longer)
+pub ruleset text-laws = (text-other, text-wrong, text-read, text-longer, line-read)

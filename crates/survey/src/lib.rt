@@ -146,8 +146,9 @@ fn size_path(s: &[u8]) -> Size
 fn size_line(line: &[u8]) -> Size
     ensures { λ r. ⌜ r ≡ sizeOf (read (parts space (now (line .entry)))) ⌝ }
 {
-    let n = texts::span(line, 32);
-    size_headed(&line[..n], &line[n..])
+    let w = tokens::first_part(line, 32);
+    let s = tokens::behind_first(line, 32);
+    size_headed(w, s)
 }
 
 // Whether a text spells a formula, whatever its length and depth, and how large that is.

@@ -1,36 +1,42 @@
--- What `part` and `after` cut out of a rest. Assumes nothing.
-use mathlib.Core.Path.{_≡_, refl, sym}
-use Prim.Native.Nat.{ℕ, _+_, _-_}
+-- What is cut out of a text, and out of a rest. Assumes nothing.
+use mathlib.Core.Path.{_≡_, refl}
+use Prim.Native.Nat.{ℕ, _-_}
 use native.Mathlib.Omega.{arith}
-use native.Mathlib.Numerals.{add-one}
 use mathlib.Core.List.{[], _∷_, headD}
 use lib.ListN.{length, take, drop}
 use Rattle.csl.specs.Text.{Text}
+use Rattle.csl.specs.Line.{parts}
 use Rattle.texts.specs.Span.{spanOf}
 use Rattle.texts.specs.Cut.{rest-is}
-use Rattle.tokens.specs.Behind.{partsBehind, afterPart, behind-head}
+use Rattle.tokens.specs.Behind.{partsBehind, behindFirst, afterPart, parts-first}
 
 module _ (mark : ℕ) where
+  -- n bytes of a text stand before its first mark
+  pub first-taken : (t : Text) (n : ℕ) → n ≡ spanOf mark t → take n t ≡ headD (parts mark t) []
+  unfolding headD
+  first-taken t n e = rw (parts-first, e)
+
+  pub first-dropped : (t : Text) (n : ℕ) → n ≡ spanOf mark t → take (length t - n) (drop n t) ≡ behindFirst mark t
+  first-dropped t n e = rw (rest-is, e)
+
+  -- a rest is empty, or r is of the text behind its mark
   pub part-none : (s : Text) → length s ≡ 0 → s ≡ headD (partsBehind mark s) []
   unfolding partsBehind headD
   part-none [] h = refl
   part-none (b ∷ t) h = absurd (omega arith)
 
+  pub part-some : (s r : Text) → r ≡ headD (parts mark (take (length s - 1) (drop 1 s))) [] → r ≡ headD (partsBehind mark s) []
+  unfolding partsBehind headD parts
+  part-some [] r e = e
+  part-some (b ∷ t) r e = rw rest-is at e
+
   pub after-none : (s : Text) → length s ≡ 0 → s ≡ afterPart mark s
-  unfolding afterPart
+  unfolding afterPart spanOf
   after-none [] h = refl
   after-none (b ∷ t) h = absurd (omega arith)
 
-  -- n bytes of the rest's end `&s[1..]` stand before the next mark
-  module _ (s : Text) (n : ℕ) (span : n ≡ spanOf mark (take (length s - 1) (drop 1 s))) where
-    pub part-some : take (n + 1 - 1) (drop 1 s) ≡ headD (partsBehind mark s) []
-    part-some =
-        let e : n + 1 - 1 ≡ n = omega arith in
-        let f = rw rest-is at span in
-        rw (e, f) (sym (behind-head mark s))
+  pub after-some : (s r : Text) → r ≡ behindFirst mark (take (length s - 1) (drop 1 s)) → r ≡ afterPart mark s
+  unfolding afterPart
+  after-some s r e = rw rest-is at e
 
-    pub after-some : take (length s - (n + 1)) (drop (n + 1) s) ≡ afterPart mark s
-    unfolding afterPart
-    after-some =
-        let f = rw rest-is at span in
-        rw (rest-is, add-one, f)
+pub ruleset cut-laws = (first-taken, first-dropped, part-none, part-some, after-none, after-some)

@@ -12,7 +12,7 @@ use native.Mathlib.Nat.{sub-self}
 use Rattle.csl.specs.Text.{Text}
 use Rattle.csl.specs.Line.{space, ahead, parts}
 use Rattle.texts.specs.Span.{spanOf}
-use Rattle.texts.specs.Cut.{span-within}
+use Rattle.texts.specs.Cut.{span-within, first-part}
 use Rattle.grammar.specs.Left.{Last}
 
 -- the parts of a rest
@@ -24,9 +24,12 @@ partsBehind mark (b ∷ t) = parts mark t
 abbrev pub tokens : Text → List Text
 tokens s = partsBehind space s
 
--- the rest after the first part
+-- the rest behind the first part of a text, and of a rest
+abbrev pub behindFirst : ℕ → Text → Text
+behindFirst mark t = drop (spanOf mark t) t
+
 unfoldable pub afterPart : ℕ → Text → Text
-afterPart mark s = drop (suc (spanOf mark (drop 1 s))) s
+afterPart mark s = behindFirst mark (drop 1 s)
 
 -- the bytes that parts take, each with a mark in front
 unfoldable pub bytesOf : List Text → ℕ
@@ -35,16 +38,9 @@ bytesOf (w ∷ ws) = suc (length w + bytesOf ws)
 
 module _ (mark : ℕ) where
   -- the first part of a text, and the rest behind it
-  pub parts-first : (t : Text) → parts mark t ≡ take (spanOf mark t) t ∷ partsBehind mark (drop (spanOf mark t) t)
-  unfolding parts partsBehind spanOf ahead
-  parts-first [] = refl
-  parts-first (b ∷ t) = go (eqb b mark) (parts-first t)
-    where
-      go : (p : Bool) → parts mark t ≡ take (spanOf mark t) t ∷ partsBehind mark (drop (spanOf mark t) t)
-          → cond p ([] ∷ parts mark t) (ahead b (parts mark t))
-          ≡ take (cond p 0 (suc (spanOf mark t))) (b ∷ t) ∷ partsBehind mark (drop (cond p 0 (suc (spanOf mark t))) (b ∷ t))
-      go true ih = refl
-      go false ih = rw ih
+  pub parts-first : (t : Text) → parts mark t ≡ take (spanOf mark t) t ∷ partsBehind mark (behindFirst mark t)
+  unfolding partsBehind
+  parts-first t = first-part mark t
 
   -- the first part of a rest, and the rest after it
   pub behind-head : (s : Text) → headD (partsBehind mark s) [] ≡ take (spanOf mark (drop 1 s)) (drop 1 s)
@@ -53,7 +49,7 @@ module _ (mark : ℕ) where
   behind-head (b ∷ t) = rw parts-first
 
   pub behind-tail : (s : Text) → tail (partsBehind mark s) ≡ partsBehind mark (afterPart mark s)
-  unfolding partsBehind afterPart
+  unfolding partsBehind afterPart spanOf
   behind-tail [] = refl
   behind-tail (b ∷ t) = rw parts-first
 
@@ -72,8 +68,7 @@ module _ (mark : ℕ) where
       rw (behind-head, length-take-le _ _ w, length-drop) (omega (arith, length-drop 1 s))
 
   pub after-within : (s : Text) → length (afterPart mark s) ≤ length s
-  unfolding afterPart
-  after-within s = omega (arith, length-drop (suc (spanOf mark (drop 1 s))) s)
+  after-within s = omega (arith, behind-length s)
 
   bytes-parts : (t : Text) → bytesOf (parts mark t) ≡ suc (length t)
   unfolding parts bytesOf ahead
@@ -118,12 +113,8 @@ module _ (mark : ℕ) where
       )
       (ending j u)
 
-  module _ (s : Text) (rest : List Text) (l : Last (partsBehind mark s) rest) where
-    pub last-behind : partsBehind mark (drop (length s - bytesOf rest) s) ≡ rest
-    last-behind = rw (l .is) (ending (l .cut) s)
-
-    pub last-within : bytesOf rest ≤ length s
-    last-within = rw (l .is) (omega (arith, bytes-drop (l .cut) (partsBehind mark s), bytes-behind s))
+  pub last-behind : (s : Text) (rest : List Text) → Last (partsBehind mark s) rest → partsBehind mark (drop (length s - bytesOf rest) s) ≡ rest
+  last-behind s rest l = rw (l .is) (ending (l .cut) s)
 
 -- w is the first token of the rest s, and t the rest after it
 pub token-within : (s w t : Text) → w ≡ headD (tokens s) [] → t ≡ afterPart space s → length w + length t ≤ length s

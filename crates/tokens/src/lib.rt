@@ -1,13 +1,12 @@
 // The parts of a text as parts of the caller's slice, and what the first token of a state formula says.
 ghost use mathlib.Core.Path.{_≡_};
-ghost use Prim.Native.Nat.{_≤_};
-ghost use mathlib.Core.List.{headD, [], tail};
+ghost use mathlib.Core.List.{headD, []};
 ghost use lib.ListN.{length};
 ghost use Rattle.csl.specs.Text.{every};
-ghost use Rattle.csl.specs.Line.{space};
+ghost use Rattle.csl.specs.Line.{space, parts};
 ghost use Rattle.csl.specs.Labels.{isLetter, isWord};
 ghost use Rattle.csl.specs.Grammar.{headOf};
-ghost use Rattle.tokens.specs.Behind.{partsBehind, afterPart};
+ghost use Rattle.tokens.specs.Behind.{partsBehind, behindFirst, afterPart};
 ghost use Rattle.tokens.specs.Head.{headMeant, HeadFits};
 
 // How a state formula begins.
@@ -20,6 +19,22 @@ pub enum Head {
     Other,
 }
 
+// The first part of a text.
+pub fn first_part<'a>(t: &'a [u8], mark: u8) -> &'a [u8]
+    ensures { λ r. ⌜ now r ≡ headD (parts mark (now (t .entry))) [] ⌝ }
+{
+    let n = texts::span(t, mark);
+    &t[..n]
+}
+
+// The rest behind the first part of a text.
+pub fn behind_first<'a>(t: &'a [u8], mark: u8) -> &'a [u8]
+    ensures { λ r. ⌜ now r ≡ behindFirst mark (now (t .entry)) ⌝ }
+{
+    let n = texts::span(t, mark);
+    &t[n..]
+}
+
 // The first part of a rest, empty where there is none.
 pub fn part<'a>(s: &'a [u8], mark: u8) -> &'a [u8]
     ensures { λ r. ⌜ now r ≡ headD (partsBehind mark (now (s .entry))) [] ⌝ }
@@ -27,19 +42,17 @@ pub fn part<'a>(s: &'a [u8], mark: u8) -> &'a [u8]
     if s.len() == 0 {
         return s;
     }
-    let n = texts::span(&s[1..], mark);
-    &s[1..n + 1]
+    first_part(&s[1..], mark)
 }
 
-// The rest after the first part.
+// The rest after the first part of a rest.
 pub fn after<'a>(s: &'a [u8], mark: u8) -> &'a [u8]
     ensures { λ r. ⌜ now r ≡ afterPart mark (now (s .entry)) ⌝ }
 {
     if s.len() == 0 {
         return s;
     }
-    let n = texts::span(&s[1..], mark);
-    &s[n + 1..]
+    behind_first(&s[1..], mark)
 }
 
 // The rest after the first two tokens.

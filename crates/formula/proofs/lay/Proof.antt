@@ -1,71 +1,58 @@
--- `lay` meets its contract. Assumes nothing.
+-- `lay` meets its contract, by the laws of `LayLaw`. Assumes nothing.
 use Rattle.csl.specs.Line.{comma, space, parts}
 use Rattle.tokens.specs.Behind.{partsBehind}
-use Rattle.formula.proofs.LayLaw.{Laying, lay-start, lay-on, lay-done}
+use Rattle.formula.proofs.LayLaw.{Laying, lay-laws}
 use borrow.Author.Needs.{needs}
-use native.Mathlib.Omega.{arith}
-use mathlib.Core.Path.{sym}
-use lib.Seq.{length-take-le}
-use Rattle.texts.specs.Cut.{rest-is}
 use Rattle.formula.proofs.lay.Statement.{statement}
 use Rattle.formula.proofs.lay.Tie as tie
 
 abbrev Inv-loop : tie.InvT-loop
-Inv-loop line names count store₀ t₀ i₀ store t i = Laying (partsBehind comma names) count (parts space line) store t i
+Inv-loop line names count store₀ w₀ s₀ i₀ store w s i = Laying (partsBehind comma names) count (parts space line) store w s i
 
 abbrev μ-loop : tie.MeasureT-loop
-μ-loop line names count store₀ t₀ i₀ store t i = i
+μ-loop line names count store₀ w₀ s₀ i₀ store w s i = i
+
+first-part-requires : tie.Need-first-part-requires Inv-loop μ-loop
+first-part-requires c κs = search needs
+
+behind-first-requires : tie.Need-behind-first-requires Inv-loop μ-loop
+behind-first-requires c κs = search needs
 
 loop-holds : tie.Need-loop-holds Inv-loop μ-loop
-loop-holds c = lay-start _ _ _ (omega arith)
+loop-holds c = search (needs, lay-laws)
 
 sub-i : tie.Need-sub-i Inv-loop μ-loop
 sub-i c = search needs
 
-span-requires : tie.Need-span-requires Inv-loop μ-loop
-span-requires c κs = search needs
-
-slice-aggregate-top-kind : tie.Need-slice-aggregate-top-kind Inv-loop μ-loop
-slice-aggregate-top-kind c = sym (length-take-le _ _ (omega arith))
-
-sub-top-kind : tie.Need-sub-top-kind Inv-loop μ-loop
-sub-top-kind c = search needs
-
-part-top-kind-start : tie.Need-part-top-kind-start Inv-loop μ-loop
-part-top-kind-start c = search needs
-
-part-top-kind-end : tie.Need-part-top-kind-end Inv-loop μ-loop
-part-top-kind-end c = search needs
+read-head-requires : tie.Need-read-head-requires Inv-loop μ-loop
+read-head-requires c κs = search needs
 
 top-kind-requires : tie.Need-top-kind-requires Inv-loop μ-loop
 top-kind-requires c κs = search needs
 
-mul-t18 : tie.Need-mul-t18 Inv-loop μ-loop
-mul-t18 c = search needs
+mul-t19 : tie.Need-mul-t19 Inv-loop μ-loop
+mul-t19 c = search needs
 
 element-set-from-store : tie.Need-element-set-from-store Inv-loop μ-loop
 element-set-from-store c = search needs
 
-next-requires : tie.Need-next-requires Inv-loop μ-loop
-next-requires c κs = search needs
+behind-own-requires : tie.Need-behind-own-requires Inv-loop μ-loop
+behind-own-requires c κs = search needs
 
-sub-t : tie.Need-sub-t Inv-loop μ-loop
-sub-t c = search needs
+part-requires : tie.Need-part-requires Inv-loop μ-loop
+part-requires c κs = search needs
 
-part-t-start : tie.Need-part-t-start Inv-loop μ-loop
-part-t-start c = search needs
-
-part-t-end : tie.Need-part-t-end Inv-loop μ-loop
-part-t-end c = search needs
+after-requires : tie.Need-after-requires Inv-loop μ-loop
+after-requires c κs = search needs
 
 loop-less : tie.Need-loop-less Inv-loop μ-loop
 loop-less c = search needs
 
 loop-again : tie.Need-loop-again Inv-loop μ-loop
-loop-again c = rw rest-is (lay-on _ _ _ _ _ _ _ _ _ (omega arith) (c .before .before .before .before .before .before .before .loop .inv) (omega arith) (c .before .before .before .before .before .span .ensures .0) (rw rest-is at (c .before .before .top-kind .ensures)) (c .before .next .ensures .0))
+loop-again c = search (needs, lay-laws)
 
 returns : tie.Need-returns Inv-loop μ-loop
-returns c = lay-done _ _ _ _ _ _ (c .before .loop .inv) (omega arith)
+returns c = search (needs, lay-laws)
 
 pub lay-spec : {M : Type 1} → statement M
 lay-spec =
@@ -73,20 +60,17 @@ lay-spec =
     (tie.spec
     Inv-loop
     μ-loop
+    first-part-requires
+    behind-first-requires
     loop-holds
     sub-i
-    span-requires
-    slice-aggregate-top-kind
-    sub-top-kind
-    part-top-kind-start
-    part-top-kind-end
+    read-head-requires
     top-kind-requires
-    mul-t18
+    mul-t19
     element-set-from-store
-    next-requires
-    sub-t
-    part-t-start
-    part-t-end
+    behind-own-requires
+    part-requires
+    after-requires
     loop-less
     loop-again
     returns)

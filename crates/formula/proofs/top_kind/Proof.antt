@@ -1,13 +1,8 @@
--- `top_kind` meets its contract. Assumes nothing.
-use mathlib.Core.Path.{refl, ap}
-use Rattle.store.specs.declared.Kind.the-variants as kind
-use Rattle.formula.proofs.KindLaw.{top-is, top-both}
+-- `top_kind` meets its contract, by the laws of `KindLaw`. Assumes nothing.
+use Rattle.formula.proofs.KindLaw.{top-laws}
 use borrow.Author.Needs.{needs}
 use Rattle.formula.proofs.top_kind.Statement.{statement}
 use Rattle.formula.proofs.top_kind.Tie as tie
-
-read-head-requires : tie.Need-read-head-requires
-read-head-requires c κs = search needs
 
 enum-told : tie.Need-enum-told
 enum-told c = search needs
@@ -46,28 +41,27 @@ chance-kind-requires : tie.Need-chance-kind-requires
 chance-kind-requires c κs = search needs
 
 returns : tie.Need-returns
-returns c = top-is _ _ _ _ _ (c .before .before .read-head .ensures .0) _ _ (c .enum-told .given .1) refl
+returns c = search needs
 
 returns-2 : tie.Need-returns-2
-returns-2 c = top-is _ _ _ _ _ (c .before .before .read-head .ensures .0) _ _ (c .enum-told2 .given .1) refl
+returns-2 c = search needs
 
 returns-3 : tie.Need-returns-3
-returns-3 c = top-is _ _ _ _ _ (c .before .before .before .read-head .ensures .0) _ _ (c .before .enum-told3 .given .1) (ap kind.Label (c .place .ensures))
+returns-3 c = search (needs, top-laws)
 
 returns-4 : tie.Need-returns-4
-returns-4 c = top-is _ _ _ _ _ (c .before .before .before .read-head .ensures .0) _ _ (c .before .enum-told4 .given .1) (ap kind.Negated (c .before2 .ensures))
+returns-4 c = search (needs, top-laws)
 
 returns-5 : tie.Need-returns-5
-returns-5 c = top-both _ _ _ _ _ (c .before .before .before .before .before .read-head .ensures .0) _ _ _ (c .before .before .before .enum-told5 .given .1) (c .before .nodes-of .ensures) (c .before .before .before3 .ensures) (c .before4 .ensures)
+returns-5 c = search (needs, top-laws)
 
 returns-6 : tie.Need-returns-6
-returns-6 c = top-is _ _ _ _ _ (c .before .before .before .read-head .ensures .0) _ _ (c .before .enum-told6 .given .1) (c .chance-kind .ensures)
+returns-6 c = search (needs, top-laws)
 
 pub top-kind-spec : {M : Type 1} → statement M
 top-kind-spec =
     tie.close
     (tie.spec
-    read-head-requires
     enum-told
     enum-told-2
     enum-told-3

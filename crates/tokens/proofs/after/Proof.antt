@@ -1,50 +1,34 @@
--- `after` meets its contract. Assumes nothing.
-use Rattle.tokens.proofs.CutLaw.{after-none, after-some}
+-- `after` meets its contract, by the laws of `CutLaw`. Assumes nothing.
+use Rattle.tokens.proofs.CutLaw.{cut-laws}
 use borrow.Author.Needs.{needs}
 use Rattle.tokens.proofs.after.Statement.{statement}
 use Rattle.tokens.proofs.after.Tie as tie
 
 returns : tie.Need-returns
-returns c = after-none _ _ (c .if1 .taken)
+returns c = search (needs, cut-laws)
 
-sub-span : tie.Need-sub-span
-sub-span c = search needs
+sub-behind-first : tie.Need-sub-behind-first
+sub-behind-first c = search needs
 
-part-span-start : tie.Need-part-span-start
-part-span-start c = search needs
+part-behind-first-start : tie.Need-part-behind-first-start
+part-behind-first-start c = search needs
 
-part-span-end : tie.Need-part-span-end
-part-span-end c = search needs
+part-behind-first-end : tie.Need-part-behind-first-end
+part-behind-first-end c = search needs
 
-span-requires : tie.Need-span-requires
-span-requires c κs = search needs
-
-add-result : tie.Need-add-result
-add-result c = search needs
-
-sub-result : tie.Need-sub-result
-sub-result c = search needs
-
-part-result-start : tie.Need-part-result-start
-part-result-start c = search needs
-
-part-result-end : tie.Need-part-result-end
-part-result-end c = search needs
+behind-first-requires : tie.Need-behind-first-requires
+behind-first-requires c κs = search needs
 
 returns-2 : tie.Need-returns-2
-returns-2 c = after-some _ _ _ (c .before .span .ensures .0)
+returns-2 c = search (needs, cut-laws)
 
 pub after-spec : {M : Type 1} → statement M
 after-spec =
     tie.close
     (tie.spec
     returns
-    sub-span
-    part-span-start
-    part-span-end
-    span-requires
-    add-result
-    sub-result
-    part-result-start
-    part-result-end
+    sub-behind-first
+    part-behind-first-start
+    part-behind-first-end
+    behind-first-requires
     returns-2)
