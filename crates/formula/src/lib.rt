@@ -75,8 +75,8 @@ fn chance_kind(s: &[u8], i: usize) -> Kind
     }
 }
 
-// The node i whose first token is w, of this kind, and s the rest behind it. Its first operand is the node before it, its second the node
-// before all of the first operand's.
+// The node i that begins with the token w of the kind `head`; s is the rest behind w. Its first operand is the node before it, its second
+// the node before all of the first operand's.
 fn top_kind(head: Head, w: &[u8], s: &[u8], names: &[u8], i: usize) -> Kind
     ensures { λ r. ⌜ r ≡ headKind (partsBehind comma (now (names .entry))) i (now (w .entry)) (headMeant head) (tokens (now (s .entry))) ⌝ }
 {
@@ -90,7 +90,7 @@ fn top_kind(head: Head, w: &[u8], s: &[u8], names: &[u8], i: usize) -> Kind
     }
 }
 
-// The rest behind a node's own tokens; s is the rest behind the first, which is of this kind.
+// The rest behind a node's own tokens, of which the first is of the kind `head`; s is the rest behind that.
 fn behind_own<'a>(head: Head, s: &'a [u8]) -> &'a [u8]
     ensures { λ r. ⌜ tokens (now r) ≡ behindHead (headMeant head) (tokens (now (s .entry))) ⌝ }
 {
