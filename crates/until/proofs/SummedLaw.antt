@@ -7,6 +7,7 @@ use native.Mathlib.Omega.{arith}
 use lib.ListN.{length}
 use Rattle.csl.specs.Limits.{rateHours}
 use Rattle.numbers.specs.Hint.{mul-bound}
+use Rattle.numbers.specs.Table.{Table}
 use Rattle.numbers.specs.Sum.{sum-cong}
 use Rattle.bounds.specs.Weight.{peak, low, Middle, low-most}
 use Rattle.bounds.specs.Unit.{one, grain, part}
@@ -19,7 +20,8 @@ use Rattle.step.specs.Bound.{bit-most, run-most}
 use Rattle.step.specs.Asked.{Sheet}
 use Rattle.sums.specs.Asked.{sumsAt}
 use Rattle.until.specs.Sums.{sum-gathered, whole-gatherable}
-use Rattle.until.specs.Asked.{WeighAsked, Weighed, LightAsked, weightsAt, ReadAsked, Read, HighAsked, GatherAsked, wholeOf, LowerAsked, Lowered, UpperAsked, Uppered, SummedAsked, Summed}
+use Rattle.until.specs.Asked.{Weighed, LightAsked, weightsAt, ReadAsked, Read, HighAsked, GatherAsked, wholeOf, LowerAsked, lowerAt, IntervalsAsked, Intervals, SummedAsked, Summed}
+use Rattle.until.proofs.LowerLaw.{end-most}
 
 module _ {mv l first second : List ℕ} {n q a depth : ℕ} (p : SummedAsked mv l first second n q a depth) where
   middle : Middle a rateHours (a / rateHours)
@@ -30,9 +32,6 @@ module _ {mv l first second : List ℕ} {n q a depth : ℕ} (p : SummedAsked mv 
 
   limit : depth < 1024
   limit = omega (arith, p .weigh .deep, p .weigh .load)
-
-  pub may-weigh : WeighAsked l n a depth
-  may-weigh = p .weigh
 
   -- a list that still has the sheet and the weights
   record Kept (x : List ℕ) : Type 0 where
@@ -137,30 +136,28 @@ module _ {mv l first second : List ℕ} {n q a depth : ℕ} (p : SummedAsked mv 
             ≡ gathered a rateHours (a / rateHours) (lastStep a rateHours (a / rateHours) depth) (λ k. valueOf mv (length mv) q (lowPhase first second) k s)
         low-sum s h = rw (← made) (i .sums s h ∙ sum-gathered w n a last (through kept-weighed last within) _)
 
-        pub may-lower : LowerAsked b first second n r
+        pub may-lower : LowerAsked b n r
         may-lower =
             record {
               states = p .weigh .states;
               room = omega (arith, kept-read .same, p .sheet .room);
-              in-first = p .in-first;
-              in-second = p .in-second;
               some = omega (arith, u .all, total-peak a rateHours (a / rateHours) depth deep);
               divisor = omega (arith, u .all, total-small);
               sums = λ s h. rw (low-sum s h, u .all) (gathered-small false s h);
             }
 
-        module _ {x : List ℕ} (o : Lowered first second n r b x) where
+        module _ {x : List ℕ} (o : Table (lowerAt b n r) b x n) where
           kept-lower : Kept x
-          kept-lower = kept-on kept-read (o .same) (λ k h. o .after k (omega arith))
+          kept-lower = kept-on kept-read (o .same) (λ k h. o .rest k (omega arith))
 
           weight-same : (k : ℕ) → at x (8 * n + k) ≡ at w (8 * n + k)
-          weight-same k = o .after (8 * n + k) (omega arith) ∙ i .after (8 * n + k) (omega arith)
+          weight-same k = o .rest (8 * n + k) (omega arith) ∙ i .after (8 * n + k) (omega arith)
 
           pub may-high : HighAsked mv x first second n q last
           may-high =
               record {
                 asked = read-kept kept-lower last within;
-                sums = λ s h. o .after (4 * n + s) (omega arith) ∙ i .sums s h
+                sums = λ s h. o .rest (4 * n + s) (omega arith) ∙ i .sums s h
                     ∙ sum-cong (λ k. part (at w (8 * n + k)) (valueOf mv (length mv) q (lowPhase first second) k s))
                     (λ k. part (at x (8 * n + k)) (valueOf mv (length mv) q (lowPhase first second) k s)) (last + 1)
                     (λ k c. rw (weight-same k) refl);
@@ -181,31 +178,31 @@ module _ {mv l first second : List ℕ} {n q a depth : ℕ} (p : SummedAsked mv 
               whole : g ≡ gatherable a rateHours (a / rateHours) (lastStep a rateHours (a / rateHours) depth) 0
               whole = e ∙ rw (← made) (whole-gatherable y n a last (through kept-high last within) 0)
 
-              pub may-upper : UpperAsked y first second n r g
-              may-upper =
+              pub may-make : IntervalsAsked y first second n r g
+              may-make =
                   record {
                     states = p .weigh .states;
                     room = omega (arith, kept-high .same, p .sheet .room);
                     in-first = p .in-first;
                     in-second = p .in-second;
-                    some = omega (arith, u .all, total-peak a rateHours (a / rateHours) depth deep);
-                    divisor = omega (arith, u .all, total-small);
-                    most = rw (whole, u .all) (gatherable-most a rateHours (a / rateHours) depth 0);
+                    lowers = λ s h. rw (j .before s (omega arith), o .filled s h) (end-most _ _ r (may-lower .sums s h) (omega arith));
+                    upper = record {
+                      some = may-lower .some;
+                      divisor = may-lower .divisor;
+                      most = rw (whole, u .all) (gatherable-most a rateHours (a / rateHours) depth 0);
+                    };
                   }
 
-              module _ {v : List ℕ} (f : Uppered first second n r g y v) where
-                pub summed-length : length v ≡ length l
-                summed-length = f .same ∙ kept-high .same
-
+              module _ {v : List ℕ} (f : Intervals first second n r g y v) where
                 pub is-summed : Summed mv first second n q a depth l v
                 unfolding lowerEnd leftEnd
                 is-summed =
                     record {
                       same = f .same ∙ kept-high .same;
-                      lower = λ s h. f .before s h ∙ j .before s (omega arith) ∙ o .ends s h ∙ rw (low-sum s h, u .all) refl;
-                      upper = λ s h. f .ends s h ∙ rw (high-sum s h, whole, u .all) refl;
+                      lower = λ s h. f .lowers s h ∙ rw (j .before s (omega arith), o .filled s h, low-sum s h, u .all) refl;
+                      upper = λ s h. f .uppers s h ∙ rw (high-sum s h, whole, u .all) refl;
                       rows = λ k b d. f .after k (omega arith) ∙ kept-high .rows k b d;
                       beyond = λ k b. f .after k (omega arith) ∙ kept-high .beyond k b;
                     }
 
-pub ruleset summed-laws = (may-weigh, may-look, may-read, may-lower, may-high, may-gather, may-upper, summed-length, is-summed)
+pub ruleset summed-laws = (may-look, may-read)

@@ -1,22 +1,20 @@
 -- The load 0, and a load above it. Assumes nothing.
 use mathlib.Core.Path.{_≡_, refl, _∙_}
-use mathlib.Core.Bool.{Bool, true, false, cond}
 use mathlib.Core.List.{List}
 use Prim.Native.Nat.{ℕ, zero, suc, _*_, _≤_, _<_, max}
 use native.Mathlib.Omega.{arith}
 use lib.ListN.{length}
-use lib.Dec.{eqb}
-use borrow.Author.Tests.{eqb-true, eq-eqb, ne-eqb}
-use mir.Val.{Fits}
-use mir.Syntax.{w64}
+use borrow.Author.Tests.{eq-eqb, ne-eqb}
 use Rattle.csl.specs.Limits.{billion}
 use Rattle.csl.specs.Chain.{greatest}
 use Rattle.csl.specs.Laws.Sum.{greatest-le}
 use Rattle.csl.specs.Phase.{bit}
-use Rattle.csl.specs.Verdicts.{No, Yes, Undecided, asNo, asYes}
-use Rattle.bounds.specs.Values.{pointed, verdictAt}
-use Rattle.rows.specs.Words.{at, exitOf, topOf}
-use Rattle.until.specs.Asked.{depthOf, Loaded, StillAsked, Still, SummedAsked, Summed, UntilAsked, Until}
+use Rattle.csl.specs.Report as report
+use Rattle.csl.specs.Verdicts.{Verdict, No, Yes, Undecided, asNo, asYes}
+use Rattle.bounds.specs.Values.{pointed}
+use Rattle.rows.specs.Words.{exitOf, topOf}
+use Rattle.step.specs.Value.{verdicts}
+use Rattle.until.specs.Asked.{depthOf, Still, SummedAsked, Summed, UntilAsked, Until}
 
 -- the greatest of numbers of at most c
 greatest-most : (f : ℕ → ℕ) (n c : ℕ) → ((s : ℕ) → s < n → f s ≤ c) → greatest f n ≤ c
@@ -27,47 +25,29 @@ greatest-most f (suc n) c h = max-most (greatest f n) (f n) c (greatest-most f n
     max-most : (x y c : ℕ) → x ≤ c → y ≤ c → max x y ≤ c
     max-most x y c h k = omega arith
 
--- the ends where the load is 0, by verdict bytes
-still-lower : (f g : ℕ) → cond (eqb g 1) billion 0 ≡ pointed (verdictAt f) (verdictAt g) (billion * bit (asNo (verdictAt g)))
-still-lower f g = at (eqb f 0) (eqb f 1) (eqb g 0) (eqb g 1) refl refl
-  where
-    at : (a b c e : Bool) → eqb g 0 ≡ c → eqb g 1 ≡ e
-        → cond e billion 0 ≡ pointed (cond a No (cond b Yes Undecided)) (cond c No (cond e Yes Undecided)) (billion * bit (asNo (cond c No (cond e Yes Undecided))))
-    at a b true true p q = let y : g ≡ 0 = eqb-true g 0 p in let z : g ≡ 1 = eqb-true g 1 q in absurd (omega arith)
-    at true b true false p q = refl
-    at false true true false p q = refl
-    at false false true false p q = refl
-    at a b false true p q = refl
-    at a b false false p q = refl
+-- the ends where the load is 0
+still-lower : (v w : Verdict) → report.lowerOf w ≡ pointed v w (billion * bit (asNo w))
+still-lower v Yes = refl
+still-lower No No = refl
+still-lower Yes No = refl
+still-lower Undecided No = refl
+still-lower v Undecided = refl
 
-still-upper : (f g : ℕ) → cond (eqb g 0) 0 billion ≡ pointed (verdictAt f) (verdictAt g) (billion * bit (asYes (verdictAt g)))
-still-upper f g = at (eqb f 0) (eqb f 1) (eqb g 0) (eqb g 1)
-  where
-    at : (a b c e : Bool)
-        → cond c 0 billion ≡ pointed (cond a No (cond b Yes Undecided)) (cond c No (cond e Yes Undecided)) (billion * bit (asYes (cond c No (cond e Yes Undecided))))
-    at true b true e = refl
-    at false true true e = refl
-    at false false true e = refl
-    at a b false true = refl
-    at a b false false = refl
+still-upper : (v w : Verdict) → report.upperOf w ≡ pointed v w (billion * bit (asYes w))
+still-upper v Yes = refl
+still-upper No No = refl
+still-upper Yes No = refl
+still-upper Undecided No = refl
+still-upper v Undecided = refl
 
 module _ {mv l first second : List ℕ} {n q t : ℕ} (p : UntilAsked mv l first second n q t) where
-  pub load-fits : Fits w64 (q * t)
-  load-fits = omega (arith, p .load)
-
-  pub loaded : Loaded (q * t)
-  loaded = record { most = p .load }
-
-  pub may-still : StillAsked l second n
-  may-still = record { states = p .lines .states; room = omega (arith, p .room); in-second = p .in-second }
-
   pub is-still : {x : List ℕ} (r : ℕ) → r ≡ depthOf (q * t) → q * t ≡ 0 → Still second n l x → Until mv first second n q t l x r
   is-still r e z s =
       record {
         deep = e;
         same = s .same;
-        lower = λ g h. rw (eq-eqb (q * t) 0 z) (s .lower g h ∙ still-lower (at first g) (at second g));
-        upper = λ g h. rw (eq-eqb (q * t) 0 z) (s .upper g h ∙ still-upper (at first g) (at second g));
+        lower = λ g h. rw (eq-eqb (q * t) 0 z) (s .lowers g h ∙ still-lower (verdicts first g) (verdicts second g));
+        upper = λ g h. rw (eq-eqb (q * t) 0 z) (s .uppers g h ∙ still-upper (verdicts first g) (verdicts second g));
         rows = λ k x y. s .after k (omega arith);
         beyond = λ k x. s .after k (omega arith);
       }
@@ -115,4 +95,4 @@ module _ {mv l first second : List ℕ} {n q t : ℕ} (p : UntilAsked mv l first
         beyond = s .beyond;
       }
 
-pub ruleset until-laws = (load-fits, loaded, may-still, is-still, may-sum, is-summed)
+pub ruleset until-laws = (is-still, may-sum, is-summed)

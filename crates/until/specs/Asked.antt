@@ -1,13 +1,14 @@
 -- What the functions of until ask and promise. Assumes nothing.
 use mathlib.Core.Path.{_≡_}
-use mathlib.Core.Bool.{Bool, true, cond, _&&_}
+use mathlib.Core.Bool.{Bool, true, _&&_}
 use mathlib.Core.List.{List}
 use Prim.Native.Nat.{ℕ, zero, suc, _+_, _*_, _-_, _/_, _^_, _≤_, _<_}
 use lib.ListN.{length}
-use lib.Dec.{leb, eqb}
+use lib.Dec.{leb}
 use Rattle.csl.specs.Limits.{billion, rateHours, spareSteps}
 use Rattle.csl.specs.Chain.{sumTo}
 use Rattle.csl.specs.Phase.{Phase}
+use Rattle.csl.specs.Report as report
 use Rattle.csl.specs.Fraction.{frac, roundUp}
 use Rattle.bounds.specs.Weight.{peak, low}
 use Rattle.bounds.specs.Unit.{one, scale, grain, part}
@@ -98,49 +99,57 @@ abbrev pub wholeOf : List ℕ → ℕ → ℕ → ℕ → ℕ
 wholeOf l n last e = sumTo (λ k. part (weightsAt l n k) (one - (e + k))) (last + 1) - (last + 1)
 
 -- sums to be put over the total
-pub record LowerAsked (l first second : List ℕ) (n total : ℕ) : Type 0 where
+pub record LowerAsked (l : List ℕ) (n total : ℕ) : Type 0 where
   pub states : n ≤ 512
   pub room : 5 * n ≤ length l
-  pub in-first : n ≤ length first
-  pub in-second : n ≤ length second
   pub some : 0 < total
   pub divisor : total < 2 ^ 52
   pub sums : (s : ℕ) → s < n → sumsAt l n s * grain ≤ total * one
 
--- only the first n words are changed
-pub record Lowered (first second : List ℕ) (n total : ℕ) (l₀ l : List ℕ) : Type 0 where
-  pub same : length l ≡ length l₀
-  pub ends : (s : ℕ) → s < n → at l s ≡ pointed (verdicts first s) (verdicts second s) (sumsAt l₀ n s * scale / total)
-  pub after : (k : ℕ) → n ≤ k → at l k ≡ at l₀ k
+-- the end that each sum gives
+abbrev pub lowerAt : List ℕ → (n total : ℕ) → ℕ → ℕ
+lowerAt l n total s = sumsAt l n s * scale / total
 
--- what they leave of the whole, likewise
-pub record UpperAsked (l first second : List ℕ) (n total whole : ℕ) : Type 0 where
-  pub states : n ≤ 512
-  pub room : 5 * n ≤ length l
-  pub in-first : n ≤ length first
-  pub in-second : n ≤ length second
+-- what a sum leaves of the whole is to be put over the total
+pub record UpperAsked (total whole : ℕ) : Type 0 where
   pub some : 0 < total
   pub divisor : total < 2 ^ 52
   pub most : whole * grain ≤ total * one
 
--- only the words n to 2 * n are changed
-pub record Uppered (first second : List ℕ) (n total whole : ℕ) (l₀ l : List ℕ) : Type 0 where
+-- the end that it gives
+abbrev pub upperFrom : (sum total whole : ℕ) → ℕ
+upperFrom sum total whole = billion - (whole - sum) * scale / total
+
+-- intervals are to be made, with lower ends in the first n words
+pub record IntervalsAsked (l first second : List ℕ) (n total whole : ℕ) : Type 0 where
+  pub states : n ≤ 512
+  pub room : 5 * n ≤ length l
+  pub in-first : n ≤ length first
+  pub in-second : n ≤ length second
+  pub lowers : (s : ℕ) → s < n → at l s ≤ billion
+  pub upper : UpperAsked total whole
+
+-- the ends of each state, the lower ones in the first n words and the upper ones in the next n; only these are changed
+pub record Ends (lower upper : ℕ → ℕ) (n : ℕ) (l₀ l : List ℕ) : Type 0 where
   pub same : length l ≡ length l₀
-  pub ends : (s : ℕ) → s < n → at l (n + s) ≡ pointed (verdicts first s) (verdicts second s) (billion - (whole - sumsAt l₀ n s) * scale / total)
-  pub before : (k : ℕ) → k < n → at l k ≡ at l₀ k
+  pub lowers : (s : ℕ) → s < n → at l s ≡ lower s
+  pub uppers : (s : ℕ) → s < n → at l (n + s) ≡ upper s
   pub after : (k : ℕ) → 2 * n ≤ k → at l k ≡ at l₀ k
+
+-- those of the intervals that the two operands' verdicts leave
+abbrev pub Intervals : (first second : List ℕ) (n total whole : ℕ) → List ℕ → List ℕ → Type 0
+Intervals first second n total whole l₀ l =
+    Ends (λ s. pointed (verdicts first s) (verdicts second s) (at l₀ s))
+    (λ s. pointed (verdicts first s) (verdicts second s) (upperFrom (sumsAt l₀ n s) total whole)) n l₀ l
 
 pub record StillAsked (l second : List ℕ) (n : ℕ) : Type 0 where
   pub states : n ≤ 512
   pub room : 2 * n ≤ length l
   pub in-second : n ≤ length second
 
--- only the words before 2 * n are changed
-pub record Still (second : List ℕ) (n : ℕ) (l₀ l : List ℕ) : Type 0 where
-  pub same : length l ≡ length l₀
-  pub lower : (s : ℕ) → s < n → at l s ≡ cond (eqb (at second s) 1) billion 0
-  pub upper : (s : ℕ) → s < n → at l (n + s) ≡ cond (eqb (at second s) 0) 0 billion
-  pub after : (k : ℕ) → 2 * n ≤ k → at l k ≡ at l₀ k
+-- those that the second operand's verdicts stand for
+abbrev pub Still : (second : List ℕ) (n : ℕ) → List ℕ → List ℕ → Type 0
+Still second n l₀ l = Ends (λ s. report.lowerOf (verdicts second s)) (λ s. report.upperOf (verdicts second s)) n l₀ l
 
 -- a load above 0, of a millionths, is to be summed over
 pub record SummedAsked (mv l first second : List ℕ) (n q a depth : ℕ) : Type 0 where

@@ -2,14 +2,17 @@
 //
 // Of the words, with n states, the first 2 * n hold the ends at last, lower ones and then upper ones; the next 4 * n are worked in; the exit
 // rates begin at 6 * n, the row ends at 7 * n, the weights at 8 * n.
+use values::Interval;
+use values::Verdict;
 ghost use mathlib.Core.Path.{_≡_};
-ghost use mathlib.Core.Bool.{true, _&&_};
+ghost use mathlib.Core.Bool.{true};
 ghost use Prim.Native.Nat.{_-_, _/_};
-ghost use lib.Dec.{eqb};
+ghost use Rattle.numbers.specs.Table.{Table};
 ghost use Rattle.bounds.specs.Last.{lastFrom};
 ghost use Rattle.bounds.specs.Ends.{negligible};
-ghost use Rattle.bounds.specs.Values as values;
-ghost use Rattle.until.specs.Asked.{depthOf, Loaded, WeighAsked, Weighed, LightAsked, weightsAt, DecidedAsked, bothDecided, ReadAsked, Read, HighAsked, GatherAsked, wholeOf, LowerAsked, Lowered, UpperAsked, Uppered, StillAsked, Still, SummedAsked, Summed, UntilAsked, Until};
+ghost use Rattle.bounds.specs.Values as ends;
+ghost use Rattle.values.specs.Paper.{verdictOf, interval};
+ghost use Rattle.until.specs.Asked.{depthOf, Loaded, WeighAsked, Weighed, LightAsked, weightsAt, DecidedAsked, bothDecided, ReadAsked, Read, HighAsked, GatherAsked, wholeOf, LowerAsked, lowerAt, UpperAsked, upperFrom, IntervalsAsked, Intervals, StillAsked, Still, SummedAsked, Summed, UntilAsked, Until};
 
 // Rates count moves per million hours.
 pub const RATE_HOURS: u64 = 1000000;
@@ -50,23 +53,18 @@ fn last_step(words: &[u64], n: usize, depth: usize, total: u64) -> usize
     k
 }
 
-// Whether two verdict bytes are both no.
-pub fn both_no(f: u8, g: u8) -> bool
-    ensures { λ r. ⌜ r ≡ (eqb f 0 && eqb g 0) ⌝ }
+// The interval at a state whose operands have these verdicts: fixed where the second is yes or both are no, else from lower to upper.
+pub fn pointed(first: Verdict, second: Verdict, lower: u32, upper: u32) -> Interval
+    ensures { λ r. ⌜ r ≡ interval (ends.pointed (verdictOf first) (verdictOf second) lower) (ends.pointed (verdictOf first) (verdictOf second) upper) ⌝ }
 {
-    f == 0 && g == 0
-}
-
-// An end where the operands' verdicts leave it open, else the point end.
-pub fn pointed(f: u8, g: u8, x: u64) -> u64
-    ensures { λ r. ⌜ r ≡ values.pointed (values.verdictAt f) (values.verdictAt g) x ⌝ }
-{
-    if g == 1 {
-        bounds::BILLION
-    } else if both_no(f, g) {
-        0
-    } else {
-        x
+    match second {
+        Verdict::Yes => Interval::CERTAIN,
+        Verdict::No => match first {
+            Verdict::No => Interval::IMPOSSIBLE,
+            Verdict::Yes => Interval::new(lower, upper),
+            Verdict::Undecided => Interval::new(lower, upper),
+        },
+        Verdict::Undecided => Interval::new(lower, upper),
     }
 }
 
@@ -148,41 +146,53 @@ pub fn gatherable(words: &[u64], n: usize, last: usize, error: u64) -> u64
     less(g, (last as u64) + 1)
 }
 
-// The lower end of each state, from the sums and the total of the weights.
-pub fn lower_ends(words: &mut [u64], first: &[u8], second: &[u8], n: usize, total: u64)
-    requires { ⌜ LowerAsked (now words) (now first) (now second) n total ⌝ }
-    ensures { λ _. ⌜ Lowered (now (first .entry)) (now (second .entry)) n total (now (words .entry)) (now (words .exit)) ⌝ }
+// The lower end that each state's sum gives, over the total of the weights.
+pub fn lower_ends(words: &mut [u64], n: usize, total: u64)
+    requires { ⌜ LowerAsked (now words) n total ⌝ }
+    ensures { λ _. ⌜ Table (lowerAt (now (words .entry)) n total) (now (words .entry)) (now (words .exit)) n ⌝ }
 {
     let mut s: usize = 0;
     while s < n {
-        let lower = weights::over(words[4 * n + s], total);
-        words[s] = pointed(first[s], second[s], lower);
+        words[s] = weights::over(words[4 * n + s], total);
         s += 1;
     }
 }
 
-// The upper end of each state: what the sums leave of what could be summed, over the total, is left of 1.
-pub fn upper_ends(words: &mut [u64], first: &[u8], second: &[u8], n: usize, total: u64, whole: u64)
-    requires { ⌜ UpperAsked (now words) (now first) (now second) n total whole ⌝ }
-    ensures { λ _. ⌜ Uppered (now (first .entry)) (now (second .entry)) n total whole (now (words .entry)) (now (words .exit)) ⌝ }
+// The upper end that a sum gives: what it leaves of what could be summed, over the total, is left of 1.
+pub fn upper_end(sum: u64, total: u64, whole: u64) -> u32
+    requires { ⌜ UpperAsked total whole ⌝ }
+    ensures { λ r. ⌜ r ≡ upperFrom sum total whole ⌝ }
+{
+    (bounds::BILLION - weights::over(less(whole, sum), total)) as u32
+}
+
+// The interval of each state, from its lower end and its sum.
+pub fn intervals(words: &mut [u64], first: &[u8], second: &[u8], n: usize, total: u64, whole: u64)
+    requires { ⌜ IntervalsAsked (now words) (now first) (now second) n total whole ⌝ }
+    ensures { λ _. ⌜ Intervals (now (first .entry)) (now (second .entry)) n total whole (now (words .entry)) (now (words .exit)) ⌝ }
 {
     let mut s: usize = 0;
     while s < n {
-        let left = weights::over(less(whole, words[4 * n + s]), total);
-        words[n + s] = pointed(first[s], second[s], bounds::BILLION - left);
+        let by_first = Verdict::from_byte(first[s]);
+        let by_second = Verdict::from_byte(second[s]);
+        let upper = upper_end(words[4 * n + s], total, whole);
+        let ends = pointed(by_first, by_second, words[s] as u32, upper);
+        words[s] = ends.lower as u64;
+        words[n + s] = ends.upper as u64;
         s += 1;
     }
 }
 
-// The two ends of each state where the load is 0: the values of step 0.
+// The interval of each state where the load is 0: what its second operand's verdict stands for.
 pub fn still(words: &mut [u64], second: &[u8], n: usize)
     requires { ⌜ StillAsked (now words) (now second) n ⌝ }
     ensures { λ _. ⌜ Still (now (second .entry)) n (now (words .entry)) (now (words .exit)) ⌝ }
 {
     let mut s: usize = 0;
     while s < n {
-        words[s] = sums::choose(second[s], 1, bounds::BILLION, 0);
-        words[n + s] = sums::choose(second[s], 0, 0, bounds::BILLION);
+        let ends = Interval::of(Verdict::from_byte(second[s]));
+        words[s] = ends.lower as u64;
+        words[n + s] = ends.upper as u64;
         s += 1;
     }
 }
@@ -204,10 +214,10 @@ pub fn summed(
     let total = weigh(words, n, a, depth);
     let last = last_step(words, n, depth, total);
     reading(moves, words, first, second, n, q, last, false);
-    lower_ends(words, first, second, n, total);
+    lower_ends(words, n, total);
     high_reading(moves, words, first, second, n, q, last);
     let whole = gatherable(words, n, last, 0);
-    upper_ends(words, first, second, n, total, whole);
+    intervals(words, first, second, n, total, whole);
 }
 
 // The two ends of each state for an until over t hours, into the first 2 * n words, and the depth; the exit rates, the row ends and q are

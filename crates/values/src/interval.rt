@@ -38,7 +38,7 @@ impl Interval {
         }
     }
 
-    // The interval that a report shows for an outermost node other than `P`.
+    // The interval that a verdict alone stands for: a report's for an outermost node other than `P`, an until's at load 0.
     pub fn of(verdict: Verdict) -> Interval
         ensures { λ r. ⌜ r ≡ interval (lowerOf (verdictOf verdict)) (upperOf (verdictOf verdict)) ⌝ }
     {

@@ -6,10 +6,10 @@ use Rattle.until.proofs.lower_ends.Statement.{statement}
 use Rattle.until.proofs.lower_ends.Tie as tie
 
 abbrev Inv-loop : tie.InvT-loop
-Inv-loop words₀ first second n total s₀ words s = Inv words₀ words first second n total s
+Inv-loop words₀ n total s₀ words s = Inv words₀ words n total s
 
 abbrev μ-loop : tie.MeasureT-loop
-μ-loop words₀ first second n total s₀ words s = n - s
+μ-loop words₀ n total s₀ words s = n - s
 
 loop-holds : tie.Need-loop-holds Inv-loop μ-loop
 loop-holds c = search (needs, lower-laws)
@@ -28,15 +28,6 @@ slice-read-over c = search (needs, lower-laws)
 
 over-requires : tie.Need-over-requires Inv-loop μ-loop
 over-requires c κs = search (needs, lower-laws)
-
-shared-slice-read-pointed : tie.Need-shared-slice-read-pointed Inv-loop μ-loop
-shared-slice-read-pointed c = search (needs, lower-laws)
-
-shared-slice-read-pointed-2 : tie.Need-shared-slice-read-pointed-2 Inv-loop μ-loop
-shared-slice-read-pointed-2 c = search (needs, lower-laws)
-
-pointed-requires : tie.Need-pointed-requires Inv-loop μ-loop
-pointed-requires c κs = search (needs, lower-laws)
 
 mul-words : tie.Need-mul-words Inv-loop μ-loop
 mul-words c = search (needs, lower-laws)
@@ -71,9 +62,6 @@ lower-ends-spec =
     mul-over-2
     slice-read-over
     over-requires
-    shared-slice-read-pointed
-    shared-slice-read-pointed-2
-    pointed-requires
     mul-words
     slice-write-words
     add-s

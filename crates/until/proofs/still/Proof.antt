@@ -14,11 +14,17 @@ abbrev μ-loop : tie.MeasureT-loop
 loop-holds : tie.Need-loop-holds Inv-loop μ-loop
 loop-holds c = search (needs, still-laws)
 
-shared-slice-read-choose : tie.Need-shared-slice-read-choose Inv-loop μ-loop
-shared-slice-read-choose c = search (needs, still-laws)
+shared-slice-read-from-byte : tie.Need-shared-slice-read-from-byte Inv-loop μ-loop
+shared-slice-read-from-byte c = search (needs, still-laws)
 
-choose-requires : tie.Need-choose-requires Inv-loop μ-loop
-choose-requires c κs = search (needs, still-laws)
+from-byte-requires : tie.Need-from-byte-requires Inv-loop μ-loop
+from-byte-requires c κs = search (needs, still-laws)
+
+of-requires : tie.Need-of-requires Inv-loop μ-loop
+of-requires c κs = search (needs, still-laws)
+
+cast-words : tie.Need-cast-words Inv-loop μ-loop
+cast-words c = search (needs, still-laws)
 
 mul-words : tie.Need-mul-words Inv-loop μ-loop
 mul-words c = search (needs, still-laws)
@@ -26,11 +32,8 @@ mul-words c = search (needs, still-laws)
 slice-write-words : tie.Need-slice-write-words Inv-loop μ-loop
 slice-write-words c = search (needs, still-laws)
 
-shared-slice-read-choose-2 : tie.Need-shared-slice-read-choose-2 Inv-loop μ-loop
-shared-slice-read-choose-2 c = search (needs, still-laws)
-
-choose-requires-2 : tie.Need-choose-requires-2 Inv-loop μ-loop
-choose-requires-2 c κs = search (needs, still-laws)
+cast-words-2 : tie.Need-cast-words-2 Inv-loop μ-loop
+cast-words-2 c = search (needs, still-laws)
 
 add-words : tie.Need-add-words Inv-loop μ-loop
 add-words c = search (needs, still-laws)
@@ -63,12 +66,13 @@ still-spec =
     Inv-loop
     μ-loop
     loop-holds
-    shared-slice-read-choose
-    choose-requires
+    shared-slice-read-from-byte
+    from-byte-requires
+    of-requires
+    cast-words
     mul-words
     slice-write-words
-    shared-slice-read-choose-2
-    choose-requires-2
+    cast-words-2
     add-words
     mul-words-2
     slice-write-words-2

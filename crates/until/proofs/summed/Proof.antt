@@ -1,5 +1,5 @@
 -- `summed` meets its contract. Assumes nothing.
-use Rattle.until.proofs.SummedLaw.{summed-laws, may-lower, may-high, may-gather, may-upper, is-summed}
+use Rattle.until.proofs.SummedLaw.{summed-laws, may-lower, may-high, may-gather, may-make, is-summed}
 use borrow.Author.Needs.{needs}
 use Rattle.until.proofs.summed.Statement.{statement}
 use Rattle.until.proofs.summed.Tie as tie
@@ -40,8 +40,8 @@ gatherable-requires c κs =
     let entry = weighed .before .before .before .before .before .before in
     may-gather (entry .pre) (weighed .weigh .ensures) (looked .last-step .ensures) (read .reading .ensures) (lowered .lower-ends .ensures) (high .high-reading .ensures)
 
-upper-ends-requires : tie.Need-upper-ends-requires
-upper-ends-requires c κs =
+intervals-requires : tie.Need-intervals-requires
+intervals-requires c κs =
     let gathered = c .before in
     let high = gathered .before .before .before .before in
     let lowered = high .before .before .before .before in
@@ -49,22 +49,22 @@ upper-ends-requires c κs =
     let looked = read .before .before in
     let weighed = looked .before .before .before .before in
     let entry = weighed .before .before .before .before .before .before in
-    may-upper (entry .pre) (weighed .weigh .ensures) (looked .last-step .ensures) (read .reading .ensures) (lowered .lower-ends .ensures) (high .high-reading .ensures) (gathered .gatherable .ensures)
+    may-make (entry .pre) (weighed .weigh .ensures) (looked .last-step .ensures) (read .reading .ensures) (lowered .lower-ends .ensures) (high .high-reading .ensures) (gathered .gatherable .ensures)
 
 same-length : tie.Need-same-length
 same-length c = search needs
 
 returns : tie.Need-returns
 returns c =
-    let upper = c .before .before in
-    let gathered = upper .before .before in
+    let made = c .before .before in
+    let gathered = made .before .before in
     let high = gathered .before .before .before .before in
     let lowered = high .before .before .before .before in
     let read = lowered .before .before .before .before in
     let looked = read .before .before in
     let weighed = looked .before .before .before .before in
     let entry = weighed .before .before .before .before .before .before in
-    is-summed (entry .pre) (weighed .weigh .ensures) (looked .last-step .ensures) (read .reading .ensures) (lowered .lower-ends .ensures) (high .high-reading .ensures) (gathered .gatherable .ensures) (upper .upper-ends .ensures)
+    is-summed (entry .pre) (weighed .weigh .ensures) (looked .last-step .ensures) (read .reading .ensures) (lowered .lower-ends .ensures) (high .high-reading .ensures) (gathered .gatherable .ensures) (made .intervals .ensures)
 
 pub summed-spec : {M : Type 1} → statement M
 summed-spec =
@@ -76,6 +76,6 @@ summed-spec =
     lower-ends-requires
     high-reading-requires
     gatherable-requires
-    upper-ends-requires
+    intervals-requires
     same-length
     returns)
