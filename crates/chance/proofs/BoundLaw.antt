@@ -4,8 +4,7 @@ use mathlib.Core.Path.{_≡_, refl, _∙_}
 use Prim.Native.Nat.{ℕ}
 use mathlib.Core.Bool.{Bool, true, false, cond}
 use mathlib.Core.List.{List, [], _∷_, headD, tail}
-use mathlib.Core.Option.{Option, none, some}
-use Rattle.csl.specs.Text.{Text, same, every}
+use Rattle.csl.specs.Text.{Text, same}
 use Rattle.csl.specs.Limits.{formulaDigits}
 use Rattle.csl.specs.Number.{isNumber, valueOf}
 use Rattle.csl.specs.Formula as formula

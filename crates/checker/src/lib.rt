@@ -39,6 +39,10 @@ fn report(
 
 // Checks a job. With n states and m move lines the caller lends n lower and upper numbers and verdict bytes, m move words,
 // 10 * n + 512 vector words, and n mark bytes for each node.
+//
+// Open, as in document 01, are the two ends of a `P` (numbers that keep the rules for ends), and the verdicts and later ends that follow
+// from them. All else is determined, for all texts and lengths: refused or accepted, the number or the depth, and every place of every
+// lent buffer.
 pub fn check(
     moves: &[u8],
     labels: &[u8],

@@ -8,9 +8,8 @@ use lib.Dec.{leb, eqb}
 use Rattle.csl.specs.Text.{Text, among}
 use Rattle.csl.specs.Limits.{mostThreshold, mostHours, mostRateHours, mostNames}
 use Rattle.csl.specs.Labels.{placeOf}
-use Rattle.csl.specs.Formula.{Formula, until, levels, labelsPass, untilsPass, Comparison}
+use Rattle.csl.specs.Formula.{Formula, until, levels, labelsPass, untilsPass}
 use Rattle.csl.specs.Chain.{Chain}
-use Rattle.csl.specs.Verdicts.{Verdict}
 use Rattle.bounds.specs.Found.{found, lowerFound, upperFound}
 use Rattle.rows.specs.Words.{at, exitOf, rowOf, topOf, Lines}
 use Rattle.rows.specs.Shown.{Shows}

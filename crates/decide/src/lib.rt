@@ -1,15 +1,16 @@
 // Deciding the nodes of a formula: the verdicts of a node at every state, into a row of verdict bytes.
 //
 // The row of a slot is n bytes of the marks; a node's operands are decided into its own row and the next, so that a formula needs as many
-// rows as it has levels. Of the vector words until uses those before 9 * n; the marks of the labels stand from 9 * n + 512 on.
+// rows as it has levels. Of the vector words an until of depth D uses those up to 8 * n + D, where the last weight stands; the marks of the
+// labels stand from 9 * n + 512 on, beyond the greatest depth.
 use store::Kind;
 use store::Store;
 use values::Comparison;
-ghost use Prim.Native.Nat.{_+_, _*_, _<_, _≤_};
-ghost use lib.ListN.{length, getD, drop};
+ghost use Prim.Native.Nat.{_+_, _*_};
+ghost use lib.ListN.{getD, drop};
 ghost use Rattle.values.specs.Paper.{comparisonOf};
 ghost use Rattle.marks.specs.Byte.{labelByte, judgedByte};
-ghost use Rattle.marks.specs.Row.{Held, RowIs};
+ghost use Rattle.marks.specs.Row.{RowIs};
 ghost use Rattle.until.specs.Asked.{Until, depthOf};
 ghost use Rattle.decide.specs.Asked.{marksFrom, Asked, Decided};
 ghost use Rattle.decide.specs.Parts.{LabelAsked, UntilNode};

@@ -9,7 +9,6 @@ use Rattle.csl.specs.Formula.{Formula, always, label, negated, both, until, nod
 use Rattle.csl.specs.Grammar.{Found, nothing, found, andThen, pair, Head, truth, name, bang, ampersand, chance, other, headOf, state, readState}
 use Rattle.grammar.specs.Left.{Leaves, left, last-length}
 use Rattle.grammar.specs.Fixed.{read, read-next, read-leaves}
-use Rattle.store.specs.declared.Kind.{Kind}
 use Rattle.store.specs.Shown.{node}
 use Rattle.formula.specs.Listed.{kindOver, listed, stored}
 use Rattle.formula.specs.Listing.{nodesFound, nodesAt, hollow, behindHead, topKind, listing, laid}

@@ -1,6 +1,6 @@
 -- Each operand's node comes before its own. Assumes nothing.
-use mathlib.Core.Path.{_≡_, refl, sym, _∙_, ap, subst}
-use Prim.Native.Nat.{ℕ, zero, suc, _+_, _-_, _≤_, _<_}
+use mathlib.Core.Path.{_≡_, refl}
+use Prim.Native.Nat.{ℕ, _+_, _-_, _≤_, _<_}
 use native.Mathlib.Omega.{arith}
 use mathlib.Core.Bool.{Bool, true, false}
 use mathlib.Core.List.{List}
@@ -11,8 +11,8 @@ use Rattle.csl.specs.Formula as csl
 use Rattle.csl.specs.Formula.{Formula, nodes}
 use Rattle.store.specs.Shown.{kindAt, OperandsBefore}
 use Rattle.store.specs.declared.Node.{Node}
-use Rattle.formula.specs.Listed.{kindOver, listed}
-use Rattle.formula.specs.Holds.{Holds, One, Two, one-held, both-held, until-held, always-held, label-held}
+use Rattle.formula.specs.Listed.{listed}
+use Rattle.formula.specs.Holds.{Holds, one-held, both-held, until-held, always-held, label-held}
 use Rattle.formula.specs.Shows.{nodes-some}
 
 module _ (names : List Text) (ns : List Node) where

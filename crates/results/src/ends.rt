@@ -1,15 +1,11 @@
-// The lower and upper ends of a report.
-use values::Interval;
-use values::Verdict;
+// The ends of a report on a `P`.
 ghost use mathlib.Core.Path.{_≡_};
 ghost use Prim.Native.Nat.{_+_, _≤_};
 ghost use lib.ListN.{length, getD};
-ghost use Rattle.csl.specs.Report.{lowerOf, upperOf};
 ghost use Rattle.csl.specs.Lent.{column, written};
-ghost use Rattle.values.specs.Byte.{verdictAt};
 ghost use Rattle.marks.specs.Row.{EndsIn};
 
-// Of an outermost `P`: the first n words are the lower ends, the next n the upper ends.
+// The first n words are the lower ends, the next n the upper ends.
 pub fn write_ends(words: &[u64], n: usize, lower: &mut [u32], upper: &mut [u32])
     requires { ⌜ EndsIn n (now words) ⌝ }
     requires { ⌜ (n ≤ length (now lower)) × (n ≤ length (now upper)) ⌝ }
@@ -20,22 +16,6 @@ pub fn write_ends(words: &[u64], n: usize, lower: &mut [u32], upper: &mut [u32])
     while s < n {
         lower[s] = words[s] as u32;
         upper[s] = words[n + s] as u32;
-        s += 1;
-    }
-}
-
-// Of any other outermost node: the ends that its verdicts stand for.
-pub fn write_plain_ends(row: &[u8], n: usize, lower: &mut [u32], upper: &mut [u32])
-    requires { ⌜ n ≤ length (now row) ⌝ }
-    requires { ⌜ (n ≤ length (now lower)) × (n ≤ length (now upper)) ⌝ }
-    ensures lowers { λ _. ⌜ now (lower .exit) ≡ written (column (λ s. lowerOf (verdictAt (getD (now (row .entry)) s 0))) n) (now (lower .entry)) ⌝ }
-    ensures uppers { λ _. ⌜ now (upper .exit) ≡ written (column (λ s. upperOf (verdictAt (getD (now (row .entry)) s 0))) n) (now (upper .entry)) ⌝ }
-{
-    let mut s: usize = 0;
-    while s < n {
-        let ends = Interval::of(Verdict::from_byte(row[s]));
-        lower[s] = ends.lower;
-        upper[s] = ends.upper;
         s += 1;
     }
 }

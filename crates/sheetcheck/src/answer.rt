@@ -19,6 +19,10 @@ pub struct Written {
 
 // Writes what the program prints for three texts to the front of `out`. The buffers that it lends are long enough for every job, so that no
 // job is refused for them.
+//
+// Open, as in document 01, are the two ends of a `P` in the printed lines (numbers that keep the rules for ends), and the verdicts and later
+// ends that follow from them. All else is determined, for all texts: refused or accepted, the number, the lines with all that they show
+// besides, and that `out` is as it was behind them.
 pub fn write_answer(moves: &[u8], labels: &[u8], formula: &[u8], out: &mut [u8]) -> Written
     requires { ⌜ 32768 ≤ length (now out) ⌝ }
     ensures { λ r. ⌜ Counts (r .length) (now (out .exit)) ⌝ }

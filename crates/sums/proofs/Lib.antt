@@ -1,5 +1,5 @@
 -- Laws behind the proofs of `sums`.
-pub mod ChooseLaw
+pub mod HeldLaw
 pub mod BeginLaw
 pub mod AdvanceLaw
 pub mod RunLaw

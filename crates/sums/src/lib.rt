@@ -3,21 +3,13 @@
 // Of the words, with n states, the first 2 * n are left alone; from 2 * n on stand the values, then the values one step on, the sums, what
 // stays put, the exit rates, the row ends, and from 8 * n on the weights.
 ghost use mathlib.Core.Path.{_≡_};
-ghost use mathlib.Core.Bool.{cond, not, _||_};
-ghost use lib.Dec.{eqb};
+ghost use mathlib.Core.Bool.{not, _||_};
 ghost use Prim.Native.Nat.{_*_};
 ghost use Rattle.csl.specs.Phase.{bit};
 ghost use Rattle.bounds.specs.Unit.{one};
 ghost use Rattle.bounds.specs.Values as values;
 ghost use Rattle.step.specs.Value.{readAs, stayOf};
 ghost use Rattle.sums.specs.Asked.{StaysAsked, BeginAsked, Begun, AdvanceAsked, Advanced, RunAsked, Ran};
-
-// x where a verdict byte is the one asked for, else y.
-pub fn choose(byte: u8, asked: u8, x: u64, y: u64) -> u64
-    ensures { λ r. ⌜ r ≡ cond (eqb byte asked) x y ⌝ }
-{
-    if byte == asked { x } else { y }
-}
 
 // Whether a verdict byte says that an operand holds, undecided read as yes or as no.
 pub fn holds(byte: u8, as_yes: bool) -> bool

@@ -2,14 +2,11 @@
 use mathlib.Core.Path.{_≡_, refl, ap, sym, _∙_}
 use mathlib.Core.Bool.{true, false}
 use mathlib.Core.List.{List}
-use Prim.Native.Nat.{ℕ, _+_, _*_, _≤_, _<_}
-use native.Mathlib.Omega.{arith}
+use Prim.Native.Nat.{ℕ, _+_, _*_, _<_}
 use lib.ListN.{length}
 use Rattle.csl.specs.Limits.{rateHours}
 use Rattle.csl.specs.Chain.{Chain, topRate, load, depth}
-use Rattle.csl.specs.Ends.{EndsAt}
 use Rattle.bounds.specs.Values.{Rounds, lowerOf, upperOf}
-use Rattle.bounds.specs.UntilEnds.{until-ends}
 use Rattle.rows.specs.Words.{at, topOf}
 use Rattle.rows.specs.Shown.{Shows, top-shown}
 use Rattle.step.specs.Value.{verdicts, lowPhase, highPhase, valueOf}
@@ -38,11 +35,3 @@ module _ {c : Chain} {mv first second l₀ l : List ℕ} {n q t d : ℕ} (p : Sh
   pub upper-shown : (s : ℕ) → s < n → at l (n + s) ≡ upperOf (topRate c * t) rateHours (depth c t) (verdicts first s) (verdicts second s)
       (λ k. valueOf mv (length mv) q (highPhase first second) k s)
   upper-shown s h = u .upper s h ∙ rw (depth-shown, ap (λ (x : ℕ). x * t) q-shown) refl
-
-  -- so the two ends keep every rule of the paper
-  pub ends-kept : q * t ≤ 256000000 → (s : ℕ) → s < n → EndsAt c t (verdicts first) (verdicts second) s (at l s) (at l (n + s))
-  ends-kept h s b =
-      rw (lower-shown s b, upper-shown s b)
-      (until-ends c t s (verdicts first) (verdicts second) (omega (arith, p .states))
-      (valueOf mv (length mv) q (lowPhase first second)) (valueOf mv (length mv) q (highPhase first second))
-      (omega (arith, sym depth-shown, u .deep)) (λ _. low-rounds) (λ _. high-rounds))

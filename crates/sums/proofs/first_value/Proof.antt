@@ -1,14 +1,14 @@
 -- `first_value` meets its contract. Assumes nothing.
 use borrow.Author.Needs.{needs}
-use Rattle.sums.proofs.ChooseLaw.{choose-laws}
+use Rattle.sums.proofs.HeldLaw.{held-laws}
 use Rattle.sums.proofs.first_value.Statement.{statement}
 use Rattle.sums.proofs.first_value.Tie as tie
 
 returns : tie.Need-returns
-returns c = search (needs, choose-laws)
+returns c = search (needs, held-laws)
 
 returns-2 : tie.Need-returns-2
-returns-2 c = search (needs, choose-laws)
+returns-2 c = search (needs, held-laws)
 
 pub first-value-spec : {M : Type 1} → statement M
 first-value-spec = tie.close (tie.spec returns returns-2)

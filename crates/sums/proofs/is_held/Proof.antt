@@ -1,6 +1,6 @@
 -- `is_held` meets its contract. Assumes nothing.
 use borrow.Author.Needs.{needs}
-use Rattle.sums.proofs.ChooseLaw.{choose-laws}
+use Rattle.sums.proofs.HeldLaw.{held-laws}
 use Rattle.sums.proofs.is_held.Statement.{statement}
 use Rattle.sums.proofs.is_held.Tie as tie
 
@@ -8,7 +8,7 @@ returns : tie.Need-returns
 returns c = search needs
 
 returns-2 : tie.Need-returns-2
-returns-2 c = search (needs, choose-laws)
+returns-2 c = search (needs, held-laws)
 
 pub is-held-spec : {M : Type 1} → statement M
 is-held-spec = tie.close (tie.spec returns returns-2)

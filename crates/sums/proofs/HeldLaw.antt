@@ -1,21 +1,15 @@
--- Choices by a verdict byte, and by what holds. Assumes nothing.
+-- What holds at a state by its verdict bytes, and what it begins with by what holds. Assumes nothing.
 use mathlib.Core.Path.{_≡_, refl, _∙_}
 use mathlib.Core.Bool.{Bool, true, false, cond, not, _||_}
 use Prim.Native.Nat.{ℕ, _+_, _*_, _-_}
 use native.Mathlib.Omega.{arith}
 use lib.Dec.{eqb}
-use borrow.Author.Tests.{eqb-true, eq-eqb, ne-eqb}
+use borrow.Author.Tests.{eqb-true}
 use Rattle.csl.specs.Phase.{bit}
 use Rattle.csl.specs.Verdicts.{No, Yes, Undecided}
 use Rattle.bounds.specs.Unit.{one}
 use Rattle.bounds.specs.Values.{verdictAt}
 use Rattle.step.specs.Value.{readAs, stayOf}
-
-pub is-asked : (b a x y : ℕ) → b ≡ a → x ≡ cond (eqb b a) x y
-is-asked b a x y h = rw (eq-eqb b a h) refl
-
-pub is-other : (b a x y : ℕ) → (b ≡ a → ⊥) → y ≡ cond (eqb b a) x y
-is-other b a x y h = rw (ne-eqb b a h) refl
 
 -- a byte read
 read-yes : (g : ℕ) → not (eqb g 0) ≡ readAs true (verdictAt g)
@@ -62,4 +56,4 @@ stays-held b q e h = rw h refl
 pub stays-moving : (b : Bool) (q e : ℕ) → b ≡ false → q - e ≡ stayOf q e b
 stays-moving b q e h = rw h refl
 
-pub ruleset choose-laws = (is-asked, is-other, holds-yes, holds-no, held-second, held-neither, value-one, value-nil, stays-held, stays-moving)
+pub ruleset held-laws = (holds-yes, holds-no, held-second, held-neither, value-one, value-nil, stays-held, stays-moving)

@@ -3,13 +3,13 @@ use borrow.Author.Needs.{needs}
 use native.Mathlib.Omega.{arith}
 use mathlib.Core.Path.{ap, _∙_}
 use Rattle.values.specs.declared.interval.Interval.{Interval}
-use Prim.Native.Nat.{_+_, _≤_, _-_}
+use Prim.Native.Nat.{_≤_, _-_}
 use lib.ListN.{getD}
 use Rattle.csl.specs.Report.{lowerOf, upperOf}
 use Rattle.values.specs.Byte.{verdictAt}
 use Rattle.results.proofs.Writing.{Writes, writes-none, writes-more, writes-done}
-use Rattle.results.proofs.ends.write_plain_ends.Statement.{statement}
-use Rattle.results.proofs.ends.write_plain_ends.Tie as tie
+use Rattle.results.proofs.plain.write_plain_ends.Statement.{statement}
+use Rattle.results.proofs.plain.write_plain_ends.Tie as tie
 
 abbrev Inv-loop : tie.InvT-loop
 Inv-loop row n lower₀ upper₀ s₀ lower upper s = (s ≤ n) × Writes (λ k. lowerOf (verdictAt (getD row k 0))) s lower₀ lower × Writes (λ k. upperOf (verdictAt (getD row k 0))) s upper₀ upper
