@@ -21,7 +21,7 @@ use Rattle.csl.specs.Report.{Reported, backingOf, depthOf}
 use Rattle.csl.specs.Lent.{Buffers, lengths}
 use Rattle.csl.specs.Refusal.{Job, jobMoves, jobChain, jobFormula, refusal, accepted, outcome}
 use Rattle.csl.specs.Finished.{Answer, refusedWith, acceptedWith, Finished}
-use Rattle.csl.specs.Laws.Throughout.{here}
+use Rattle.csl.specs.Laws.Throughout.{agrees-here}
 use Rattle.csl.specs.Theorems as theorems
 use Rattle.demands.specs.Proved as proved
 use Rattle.demands.specs.Proved.{TheReport}
@@ -45,7 +45,8 @@ module _ (j : Job) (before : Buffers (List ℕ)) (a : Answer) (after : Buffers (
   pub accepted-only-then : (d : ℕ) → a ≡ acceptedWith d → refusal j (lengths before) ≡ none
   accepted-only-then d h = proved.accepted-then j before a after finished d h
 
--- ".. rate, depth and labels exact": an accepted job is decided over the chain of its texts, at that chain's greatest exit rate
+-- ".. rate, depth and labels exact": an accepted job is decided over the chain of its texts, at that chain's greatest exit rate. (That the
+-- code's q is this one is the field `top` of what `prepare::prepare` promises.)
 pub decided-at-its-rate : (j : Job) (lent : Buffers ℕ) → refusal j lent ≡ none
     → outcome j lent ≡ accepted (jobChain j) (jobFormula j) (topRate (jobChain j)) (depthOf (jobChain j) (jobFormula j))
 decided-at-its-rate j lent h = proved.outcome-by j lent h
@@ -96,11 +97,11 @@ module _ (c : Chain) (r : Comparison) (p t : ℕ) (f g : Formula) (lower upper :
   pub first-operand-agrees : Reading (c .states) (k .first) (o .first)
   unfolding Throughout backingOf Obeys
   first-operand-agrees =
-      here c f (k .first) (o .first) (k .first-backed) (o .first-obeys)
+      agrees-here c f (k .first) (o .first) (k .first-backed) (o .first-obeys)
       (every-table-agrees c (until r p t f g) v (backingOf c (until r p t f g) lower upper v k) table o .1)
 
   pub second-operand-agrees : Reading (c .states) (k .second) (o .second)
   unfolding Throughout backingOf Obeys
   second-operand-agrees =
-      here c g (k .second) (o .second) (k .second-backed) (o .second-obeys)
+      agrees-here c g (k .second) (o .second) (k .second-backed) (o .second-obeys)
       (every-table-agrees c (until r p t f g) v (backingOf c (until r p t f g) lower upper v k) table o .2)

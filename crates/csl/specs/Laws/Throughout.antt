@@ -30,14 +30,14 @@ throughout c (until r p t a e) v b k o = (
 )
 
 -- of which one part is that it agrees at the node itself
-pub here : (c : Chain) (f : Formula) (v : ℕ → Verdict) (b : ℕ → Bool) (k : Backed c f v) (o : Obeys c f b) → Throughout c f v b k o
+pub agrees-here : (c : Chain) (f : Formula) (v : ℕ → Verdict) (b : ℕ → Bool) (k : Backed c f v) (o : Obeys c f b) → Throughout c f v b k o
     → Reading (c .states) v b
 unfolding Backed Obeys Throughout
-here c always v b k o h = h
-here c (label name) v b k o h = h
-here c (negated a) v b k o h = h .0
-here c (both a e) v b k o h = h .0
-here c (until r p t a e) v b k o h = h .0
+agrees-here c always v b k o h = h
+agrees-here c (label name) v b k o h = h
+agrees-here c (negated a) v b k o h = h .0
+agrees-here c (both a e) v b k o h = h .0
+agrees-here c (until r p t a e) v b k o h = h .0
 
 -- the rule of sides, of one `P` and of every `P`
 pub sides : (c : Chain) (r : Comparison) (p t : ℕ) (a e : Formula) (lower upper : ℕ → ℕ) (v : ℕ → Verdict)
