@@ -2,7 +2,7 @@
 -- kind that was read and what the calls leave. Assumes nothing.
 use mathlib.Core.Path.{_≡_}
 use mathlib.Core.List.{List}
-use Prim.Native.Nat.{ℕ, _+_, _*_, _-_, _<_}
+use Prim.Native.Nat.{ℕ, _+_, _*_, _-_}
 use native.Mathlib.Omega.{arith}
 use lib.ListN.{getD, drop}
 use Rattle.values.specs.declared.comparison.Comparison as code
@@ -26,9 +26,6 @@ Leaves mv l l' marks marks' nodes node depth slot n q =
 
 -- what each call asks
 module _ {mv l marks : List ℕ} {nodes : List Node} {node depth slot n q : ℕ} (a : Asked mv l marks nodes node depth slot n q) where
-  pub node-inside : node < 64
-  node-inside = a .inside
-
   pub row-inside : Held slot n marks
   row-inside = row-held a
 
@@ -107,20 +104,4 @@ module _ {mv l marks : List ℕ} {nodes : List Node} {node depth slot n q : ℕ}
     leaves-until {sign = sign} {p = p} {t = t} e u i a =
         until-decided a (one-less depth some) sign p t x y e (r (may-left a some e)) (r' (may-right a some e r)) u i
 
-pub ruleset decide-laws = (
-  node-inside,
-  row-inside,
-  may-label,
-  may-operand,
-  may-first,
-  may-second,
-  may-left,
-  may-right,
-  may-until,
-  leaves-none,
-  leaves-always,
-  leaves-label,
-  leaves-not,
-  leaves-both,
-  leaves-until,
-)
+pub ruleset decide-laws = (row-inside, may-label, may-operand, may-first, may-left, may-until, leaves-none, leaves-always, leaves-label, leaves-not, leaves-both, leaves-until)

@@ -4,7 +4,7 @@ use Prim.Native.Nat.{ℕ, _+_, _-_, _≤_, _<_}
 use native.Mathlib.Omega.{arith}
 use mathlib.Core.Bool.{Bool, true, false, cond, not, _&&_}
 use mathlib.Core.List.{[], _∷_, headD, tail}
-use lib.ListN.{length, take, drop, getD, length-drop}
+use lib.ListN.{length, take, drop, getD}
 use lib.Dec.{leb, ltb, eqb}
 use borrow.Author.Tests.{lt-ltb, le-ltb, le-leb, lt-leb, not-true, not-false}
 use Rattle.csl.specs.Text.{Text, bytes, same, among, every}
@@ -107,9 +107,6 @@ rest t k = take (length t - k) (drop k t)
 
 -- and so from the calls: the first name has n bytes, p is its place among those behind it, and c is how many they are
 module _ (t : Text) (n : ℕ) (cut : n ≡ spanOf comma (rest t 1)) (some : 0 < length t) where
-  pub repeat-less : length (rest (rest t 1) n) < length t
-  repeat-less = rw (rest-is, rest-is) (omega (arith, length-drop n (drop 1 t), length-drop 1 t))
-
   module _ (p c : ℕ) (at : p ≡ placeOf (namesFrom (rest (rest t 1) n)) (take n (rest t 1))) (k : c ≡ commasIn (rest (rest t 1) n)) {all : Bool}
       (left : noRepeat (namesFrom t) ≡ all) where
     pub repeat-found : p < c → false ≡ all
@@ -134,7 +131,7 @@ module _ (t : Text) (h : length t ≤ 0) where
   unfolding noRepeat
   repeat-end left = sym (rw (names-end t h)) ∙ left
 
-pub ruleset repeat-laws = (repeat-less, repeat-found, repeat-behind, repeat-end)
+pub ruleset repeat-laws = (repeat-found, repeat-behind, repeat-end)
 
 -- a word by its tests, in the code's order
 module _ (w : Text) where

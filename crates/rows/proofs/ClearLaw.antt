@@ -1,18 +1,15 @@
 -- Zeros in the first words. Assumes nothing.
-use mathlib.Core.Path.{_≡_, refl}
+use mathlib.Core.Path.{refl}
 use mathlib.Core.List.{List}
 use Prim.Native.Nat.{ℕ, _+_, _≤_, _<_}
 use native.Mathlib.Omega.{arith}
 use lib.ListN.{length, set}
-use Rattle.numbers.specs.Table.{Table, table-none, table-more, table-done}
+use Rattle.numbers.specs.Table.{Table, table-more, table-done}
 
 pub record Inv (l₀ l : List ℕ) (end i : ℕ) : Type 0 where
   pub room : end ≤ length l₀
   pub within : i ≤ end
   pub table : Table (λ _. 0) l₀ l i
-
-pub start : {l : List ℕ} {n : ℕ} → n ≤ length l → Inv l l n 0
-start {l} h = record { room = h; within = omega arith; table = table-none _ l }
 
 module _ {l₀ l : List ℕ} {n i : ℕ} (v : Inv l₀ l n i) (h : i < n) where
   pub in-range : i < length l
@@ -24,7 +21,4 @@ module _ {l₀ l : List ℕ} {n i : ℕ} (v : Inv l₀ l n i) (h : i < n) where
 pub finish : {l₀ l : List ℕ} {n i : ℕ} → Inv l₀ l n i → n ≤ i → Table (λ _. 0) l₀ l n
 finish v h = table-done (v .table) (v .within) h
 
-pub finish-length : {l₀ l : List ℕ} {n i : ℕ} → Inv l₀ l n i → length l ≡ length l₀
-finish-length v = v .table .same
-
-pub ruleset clear-laws = (start, in-range, turn, finish, finish-length)
+pub ruleset clear-laws = (turn, finish)

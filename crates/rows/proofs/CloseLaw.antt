@@ -44,12 +44,6 @@ module _ {mv l₀ l : List ℕ} {n end q s : ℕ} (v : Inv mv l₀ l n end q s) 
   unfolding countOf
   ends = omega (arith, v .end-is, v .todo (n + s) (omega arith), v .asked .counts s h, row-next mv (length mv) s)
 
-  pub index-fits : Fits w64 (n + s)
-  index-fits = omega (arith, v .asked .lines .states)
-
-  pub next-fits : Fits w64 (s + 1)
-  next-fits = omega (arith, v .asked .lines .states)
-
   pub in-ends : n + s < length l
   in-ends = omega (arith, v .asked .room, v .same)
 
@@ -94,7 +88,4 @@ module _ {mv l₀ l : List ℕ} {n end q s : ℕ} (v : Inv mv l₀ l n end q s) 
   unfolding topOf
   finish-top = rw at-end at (v .top-is)
 
-pub finish-length : {mv l₀ l : List ℕ} {n end q s : ℕ} → Inv mv l₀ l n end q s → length l ≡ length l₀
-finish-length v = v .same
-
-pub ruleset close-laws = (start, index-fits, next-fits, in-ends, in-exits, end-fits, turn, finish, finish-top, finish-length)
+pub ruleset close-laws = (start, in-exits, end-fits, turn, finish, finish-top)
