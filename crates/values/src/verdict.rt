@@ -20,7 +20,7 @@ impl Verdict {
         match self {
             Verdict::No => Verdict::Yes,
             Verdict::Yes => Verdict::No,
-            Verdict::Undecided => self,
+            Verdict::Undecided => Verdict::Undecided,
         }
     }
 

@@ -5,13 +5,12 @@ use Prim.Native.Nat.{ℕ, _+_, _*_, _-_, _≤_, _<_}
 use native.Mathlib.Omega.{arith}
 use native.Mathlib.Nat.{lt-of-mul-lt-mul-right, le-of-lt}
 use lib.Dec.{lit<}
-use borrow.Author.Tests.{le-ltb, le-leb}
 use Rattle.csl.specs.Text.{bytes}
 use Rattle.csl.specs.Formula.{until, AtMost}
 use Rattle.csl.specs.Fraction.{Fraction, IsFraction, Below, times, over, plus, sumUp, billionths}
 use Rattle.csl.specs.Chain.{Chain, load, depth}
 use Rattle.csl.specs.Phase.{untilPhase, stepValue, quotient, untilQuotient, weight}
-use Rattle.csl.specs.Verdicts.{Verdict, Yes, judged}
+use Rattle.csl.specs.Verdicts.{Verdict, Yes, judged, Sides}
 use Rattle.csl.specs.Ends.{EndsAt}
 use Rattle.csl.specs.Backing.{Backed}
 use Rattle.csl.specs.Report.{Reported}
@@ -24,6 +23,7 @@ use Rattle.csl.specs.Laws.Quotient.{until-starts}
 use Rattle.csl.specs.Laws.Readings.{marks-decided, low-marks, high-marks}
 use Rattle.csl.specs.Laws.Tail.{Light, light-from, later}
 use Rattle.csl.specs.Laws.Left.{leftOf, left-above}
+use Rattle.csl.specs.Laws.Sides.{judged-sides, one-verdict}
 
 abbrev pub sheet : Chain
 sheet = jobChain (small "P <= 10000000 U 8 up dead\n")
@@ -120,22 +120,22 @@ end-over : (x : Fraction) (a m : ℕ) → Below x (billionths a) → m * x .bott
 end-over x a m h k = lt-of-mul-lt-mul-right (x .bottom) (omega arith)
 
 yes-below : (p lower upper : ℕ) → upper ≤ p → lower ≤ upper → judged AtMost p lower upper ≡ Yes
-yes-below p lower upper h k = rw (le-ltb p lower (omega arith), le-leb upper p h)
+unfolding Sides
+yes-below p lower upper h k = one-verdict p lower upper k AtMost _ Yes (judged-sides p lower upper k AtMost) (λ x a b. omega arith)
 
 pub eight-hours : (lower upper : ℕ → ℕ) (v : ℕ → Verdict) → Reported sheet (until AtMost 10000000 8 up dead) lower upper v → EightHours lower upper v
 unfolding Backed
 eight-hours lower upper v k =
     let here : 0 < sheet .states = omega (arith, two-states) in
     let e : EndsAt sheet 8 (k .first) (k .second) 0 (lower 0) (upper 0) = k .ends 0 here in
-    let d : depth sheet 8 ≤ 42 = omega (arith, depth-is) in
     let low : lower 0 < 3992011
     = end-under atDepth (lower 0) 3992011
     (rw (low-marks sheet 8 _ _ isUp isDead (k .first-backed) (k .second-backed) 0 42 here .0, low-marks sheet 8 _ _ isUp isDead (k .first-backed) (k .second-backed) 0 42 here .1)
-    at (e .lower-side 42 d)) under-end in
+    at (e .lower-side 42 (omega (arith, depth-is)))) under-end in
     let high : 3992010 < upper 0
     = end-over atDepth (upper 0) 3992010
     (rw (high-marks sheet 8 _ _ isUp isDead (k .first-backed) (k .second-backed) 0 42 here .0, high-marks sheet 8 _ _ isUp isDead (k .first-backed) (k .second-backed) 0 42 here .1)
-    at (e .upper-side 42 d)) over-end in
+    at (e .upper-side 42 (omega (arith, depth-is)))) over-end in
     let narrow : upper 0 ≤ lower 0 + 168
     = omega (arith, depth-is, e .width (marks-decided sheet _ isUp (k .first-backed)) (marks-decided sheet _ isDead (k .second-backed))) in
     record {

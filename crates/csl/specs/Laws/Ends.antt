@@ -51,7 +51,7 @@ module _ (c : Chain) (t : ℕ) (v w : ℕ → Verdict) (s lower upper : ℕ) (in
       let high : Fraction = highQuotient c t v w s d in
       let h : Below (billionths lower) (billionths upper)
       = below-trans (billionths lower) high (billionths upper) (until-is c t (most v) (most w) s d)
-      (under-right (billionths lower) low high (low-high d) (e .lower-side d (le-refl d))) (e .upper-side d (le-refl d)) in
+      (under-right (billionths lower) low high (low-high d) (e .lower-side d (omega arith))) (e .upper-side d (omega arith)) in
       omega arith
 
 -- where the second operand holds nowhere the quotients are 0

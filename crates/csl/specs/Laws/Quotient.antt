@@ -15,7 +15,7 @@ use Rattle.csl.specs.Laws.Steps.{Starts, PhaseUnder, step-le, step-rises
 pub weight-is : (l : Fraction) → IsFraction l → (k : ℕ) → IsFraction (weight l k)
 unfolding weight
 weight-is l p zero = omega arith
-weight-is l p (suc k) = let s : 0 < suc k = omega arith in mul-pos (mul-pos (weight-is l p k) p) s
+weight-is l p (suc k) = mul-pos (mul-pos (weight-is l p k) p) (omega arith)
 
 weight-some : (l : Fraction) → 0 < weight l 0 .top
 unfolding weight
