@@ -7,7 +7,7 @@ use lib.ListN.{length, set, length-set}
 use lib.Seq.{getD-set-same, getD-set-other}
 use borrow.Author.Count.{below-more}
 use Rattle.rows.specs.Words.{at}
-use Rattle.until.specs.Asked.{Ends}
+use Rattle.until.specs.Asked.{EndsStored}
 
 pub record Inv (lower upper : ℕ → ℕ) (l₀ l : List ℕ) (n s : ℕ) : Type 0 where
   pub room : 2 * n ≤ length l₀
@@ -57,7 +57,7 @@ module _ {lower upper : ℕ → ℕ} {l₀ l : List ℕ} {n s : ℕ} (v : Inv lo
         after = λ k b. others x y k (omega arith) (omega arith) ∙ v .after k b;
       }
 
-pub finish : {lower upper : ℕ → ℕ} {l₀ l : List ℕ} {n s : ℕ} → Inv lower upper l₀ l n s → n ≤ s → Ends lower upper n l₀ l
+pub finish : {lower upper : ℕ → ℕ} {l₀ l : List ℕ} {n s : ℕ} → Inv lower upper l₀ l n s → n ≤ s → EndsStored lower upper n l₀ l
 finish v h =
     record { same = v .same; lowers = λ g b. v .lowers g (omega arith); uppers = λ g b. v .uppers g (omega arith); after = v .after }
 

@@ -130,7 +130,7 @@ pub record IntervalsAsked (l first second : List ℕ) (n total whole : ℕ) : Ty
   pub upper : UpperAsked total whole
 
 -- the ends of each state, the lower ones in the first n words and the upper ones in the next n; only these are changed
-pub record Ends (lower upper : ℕ → ℕ) (n : ℕ) (l₀ l : List ℕ) : Type 0 where
+pub record EndsStored (lower upper : ℕ → ℕ) (n : ℕ) (l₀ l : List ℕ) : Type 0 where
   pub same : length l ≡ length l₀
   pub lowers : (s : ℕ) → s < n → at l s ≡ lower s
   pub uppers : (s : ℕ) → s < n → at l (n + s) ≡ upper s
@@ -139,7 +139,7 @@ pub record Ends (lower upper : ℕ → ℕ) (n : ℕ) (l₀ l : List ℕ) : Type
 -- those of the intervals that the two operands' verdicts leave
 abbrev pub Intervals : (first second : List ℕ) (n total whole : ℕ) → List ℕ → List ℕ → Type 0
 Intervals first second n total whole l₀ l =
-    Ends (λ s. pointed (verdicts first s) (verdicts second s) (at l₀ s))
+    EndsStored (λ s. pointed (verdicts first s) (verdicts second s) (at l₀ s))
     (λ s. pointed (verdicts first s) (verdicts second s) (upperFrom (sumsAt l₀ n s) total whole)) n l₀ l
 
 pub record StillAsked (l second : List ℕ) (n : ℕ) : Type 0 where
@@ -149,7 +149,7 @@ pub record StillAsked (l second : List ℕ) (n : ℕ) : Type 0 where
 
 -- those that the second operand's verdicts stand for
 abbrev pub Still : (second : List ℕ) (n : ℕ) → List ℕ → List ℕ → Type 0
-Still second n l₀ l = Ends (λ s. report.lowerOf (verdicts second s)) (λ s. report.upperOf (verdicts second s)) n l₀ l
+Still second n l₀ l = EndsStored (λ s. report.lowerOf (verdicts second s)) (λ s. report.upperOf (verdicts second s)) n l₀ l
 
 -- a load above 0, of a millionths, is to be summed over
 pub record SummedAsked (mv l first second : List ℕ) (n q a depth : ℕ) : Type 0 where

@@ -10,7 +10,7 @@ ghost use Prim.Native.Nat.{_-_, _/_};
 ghost use Rattle.numbers.specs.Table.{Table};
 ghost use Rattle.bounds.specs.Last.{lastFrom};
 ghost use Rattle.bounds.specs.Ends.{negligible};
-ghost use Rattle.bounds.specs.Values as ends;
+ghost use Rattle.bounds.specs.Values.{pointed as pointedEnd};
 ghost use Rattle.values.specs.Paper.{verdictOf, interval};
 ghost use Rattle.until.specs.Asked.{depthOf, Loaded, WeighAsked, Weighed, LightAsked, weightsAt, DecidedAsked, bothDecided, ReadAsked, Read, HighAsked, GatherAsked, wholeOf, LowerAsked, lowerAt, UpperAsked, upperFrom, IntervalsAsked, Intervals, StillAsked, Still, SummedAsked, Summed, UntilAsked, Until};
 
@@ -54,8 +54,8 @@ fn last_step(words: &[u64], n: usize, depth: usize, total: u64) -> usize
 }
 
 // The interval at a state whose operands have these verdicts: fixed where the second is yes or both are no, else from lower to upper.
-pub fn pointed(first: Verdict, second: Verdict, lower: u32, upper: u32) -> Interval
-    ensures { λ r. ⌜ r ≡ interval (ends.pointed (verdictOf first) (verdictOf second) lower) (ends.pointed (verdictOf first) (verdictOf second) upper) ⌝ }
+fn pointed(first: Verdict, second: Verdict, lower: u32, upper: u32) -> Interval
+    ensures { λ r. ⌜ r ≡ interval (pointedEnd (verdictOf first) (verdictOf second) lower) (pointedEnd (verdictOf first) (verdictOf second) upper) ⌝ }
 {
     match second {
         Verdict::Yes => Interval::CERTAIN,
@@ -159,7 +159,7 @@ pub fn lower_ends(words: &mut [u64], n: usize, total: u64)
 }
 
 // The upper end that a sum gives: what it leaves of what could be summed, over the total, is left of 1.
-pub fn upper_end(sum: u64, total: u64, whole: u64) -> u32
+fn upper_end(sum: u64, total: u64, whole: u64) -> u32
     requires { ⌜ UpperAsked total whole ⌝ }
     ensures { λ r. ⌜ r ≡ upperFrom sum total whole ⌝ }
 {
@@ -167,7 +167,7 @@ pub fn upper_end(sum: u64, total: u64, whole: u64) -> u32
 }
 
 // The interval of each state, from its lower end and its sum.
-pub fn intervals(words: &mut [u64], first: &[u8], second: &[u8], n: usize, total: u64, whole: u64)
+fn intervals(words: &mut [u64], first: &[u8], second: &[u8], n: usize, total: u64, whole: u64)
     requires { ⌜ IntervalsAsked (now words) (now first) (now second) n total whole ⌝ }
     ensures { λ _. ⌜ Intervals (now (first .entry)) (now (second .entry)) n total whole (now (words .entry)) (now (words .exit)) ⌝ }
 {
