@@ -1,7 +1,9 @@
 """The bars of the bench: what the figures have to keep to."""
 from collections import namedtuple
 
+import sheets
 from measuring import balls_agree, doubles_agree, width
+from reckoning.chain import depth
 
 FEW_MOVES = 3                           # with fewer moves out of a state than this a sheet is sparse
 MOST_OVER_DOUBLES = {"dense": 1.6, "sparse": 2.4}
@@ -9,7 +11,7 @@ GOAL_OVER_DOUBLES = {"dense": 1.3, "sparse": 2.0}
 LEAST_UNDER_BALLS = 60
 LEAST_UNDER_DOTS = 30                   # a goal and no bar
 MOST_OVER_UNTILS = 1.3
-JUDGED_DEPTH = 168                      # the whole job is judged at this depth, and told of the others
+JUDGED_DEPTH = depth(sheets.HOURS[-1])  # the whole job is judged at this depth, and told of the others
 MOST_RESIDENT = 4096                    # KB
 MOST_WIDTH = 2                          # billionths
 
@@ -44,10 +46,10 @@ def under_balls(rows):
 
 def over_untils(rows):
     """The whole job against its until, one bar for each depth."""
-    for depth in sorted({row.depth for row in rows}, reverse=True):
-        over = [row.job / row.engine for row in rows if row.depth == depth]
-        yield Bar(f"whole job at most {MOST_OVER_UNTILS} times its until at depth {depth}", f"{min(over):.2f} to {max(over):.2f}",
-                  max(over) <= MOST_OVER_UNTILS, depth == JUDGED_DEPTH)
+    for at in sorted({row.depth for row in rows}, reverse=True):
+        over = [row.job / row.engine for row in rows if row.depth == at]
+        yield Bar(f"whole job at most {MOST_OVER_UNTILS} times its until at depth {at}", f"{min(over):.2f} to {max(over):.2f}",
+                  max(over) <= MOST_OVER_UNTILS, at == JUDGED_DEPTH)
 
 
 def of_footprints(footprints):

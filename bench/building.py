@@ -3,11 +3,9 @@ import subprocess
 import sys
 from pathlib import Path
 
-HERE = Path(__file__).resolve().parent
-sys.path.insert(0, str(HERE.parent))
-
 from tests.places import ARCHIVE, PROGRAM, ROOT, TARGET, is_stale
 
+HERE = Path(__file__).resolve().parent
 PLACE = TARGET / "bench"
 COMPILER = ["cc", "-O3", "-std=gnu11", "-Wall", "-Wextra"]
 

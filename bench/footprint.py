@@ -3,6 +3,7 @@ import subprocess
 from collections import namedtuple
 
 from building import PLACE, PROGRAM
+from reckoning.sheets import REPORT_LINE
 
 STEP = 16                               # stack limits are tried in steps of so many KB
 BAR = 1024                              # the limit that the program has to do with, in KB
@@ -36,5 +37,5 @@ def footprint(folder, told):
     """The footprint of the program on the sheet of a folder."""
     report, _ = run_within(folder, 8 * BAR)
     runs = [run_within(folder, BAR) for _ in range(RUNS)]
-    printed = report is not None and report.startswith("state,lower,upper,depth,verdict\n") and all(within == report for within, _ in runs)
+    printed = report is not None and report.startswith(REPORT_LINE.decode()) and all(within == report for within, _ in runs)
     return Footprint(told, max(resident for _, resident in runs), printed, least_stack(folder, report) if printed else None)

@@ -1,6 +1,8 @@
 """How a time grows with states, moves and depth: two fits by least squares; and how many steps the engine makes."""
 from math import log
 
+from reckoning.limits import LOAD_STEPS, SPARE_STEPS
+
 PEAK = 1 << 40                          # the greatest weight of the engine
 NEGLIGIBLE = 1 << 34                    # weights that are together at most this part of the total are dropped
 
@@ -39,7 +41,7 @@ def weights(load, depth):
 
 def steps_made(depth):
     """How many steps the engine makes for a whole load of this depth: the weights of those after are together next to nothing."""
-    load = (depth - 40) // 2
+    load = (depth - SPARE_STEPS) // LOAD_STEPS
     found = weights(load, depth)
     lacking = [abs(load - step) for step in range(depth + 1)]
     most = (sum(found) + sum(lacking) + found[-1] + lacking[-1]) // NEGLIGIBLE

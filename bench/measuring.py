@@ -4,10 +4,10 @@ from collections import namedtuple
 
 import sheets
 from building import PLACE
+from reckoning.limits import BILLION
 
 MILLISECONDS = {"doubles": 20, "balls": 40, "job": 40}      # how long a program repeats its work in each round
 READING = "tt"                                              # the formula of a job that reads and prepares alone
-BILLION = 1_000_000_000
 WAYS = ["products", "dot"]                                  # in which balls are added up
 
 # A sheet and the hours of its until.

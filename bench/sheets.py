@@ -2,12 +2,16 @@
 import random
 from collections import namedtuple
 
-TOP_RATE = 1_000_000                    # the greatest exit rate of every sheet: the load of an until over t hours is t
-MOST_MOVES = 4096
+from reckoning.__main__ import FILES
+from reckoning.limits import MOST_LEVELS, MOST_MOVES, MOST_STATES, RATE_HOURS
+from reckoning.sheets import labels_text, moves_text
+
+TOP_RATE = RATE_HOURS                   # the greatest exit rate of every sheet: the load of an until over t hours is t
 HOURS = [1, 32, 64]                     # loads, and so depths 42, 104 and 168
-SIZES = [(64, 7), (256, 7), (512, 7)]   # states, and moves out of each
-SHAPES = [(512, 2), (512, 4), (256, 14), (64, 28)]
+SIZES = [(64, 7), (256, 7), (MOST_STATES, 7)]               # states, and moves out of each
+SHAPES = [(MOST_STATES, 2), (MOST_STATES, 4), (256, 14), (64, 28)]
 DEAD_OF = 32                            # one state of so many is dead
+NESTED = MOST_LEVELS - 1                # untils, one in the other, of the deepest formula
 
 # A sheet in a folder: its number of states and of moves.
 Sheet = namedtuple("Sheet", "folder states moves")
@@ -20,23 +24,23 @@ def parts(draw, whole, count):
 
 
 def row(draw, state, states, per_state):
-    """The moves out of a state, as lines: about so many of them, and exit rates from a third of the greatest up to it, which state 0 has."""
+    """The moves out of a state: about so many of them, and exit rates from a third of the greatest up to it, which state 0 has."""
     count = min(states - 1, draw.randint(per_state - per_state // 3, per_state + per_state // 3))
     exit_rate = TOP_RATE if state == 0 else draw.randint(TOP_RATE // 3, TOP_RATE)
     targets = sorted(draw.sample([other for other in range(states) if other != state], count))
-    return [f"{state},{to},{rate}\n" for to, rate in zip(targets, parts(draw, exit_rate, count))]
+    return [(state, to, rate) for to, rate in zip(targets, parts(draw, exit_rate, count))]
 
 
 def write(folder, states, per_state):
     """Writes moves.txt and labels.txt of a sheet with so many states and about so many moves out of each."""
     draw = random.Random(1000 * states + per_state)
     dead = set(draw.sample(range(1, states), max(1, states // DEAD_OF)))
-    moves = [line for state in range(states) for line in row(draw, state, states, per_state)]
+    moves = [move for state in range(states) for move in row(draw, state, states, per_state)]
     assert len(moves) <= MOST_MOVES
-    labels = [f"{state},{int(state not in dead)},{int(state in dead)}\n" for state in range(states)]
+    marks = [(state not in dead, state in dead) for state in range(states)]
     folder.mkdir(parents=True, exist_ok=True)
-    (folder / "moves.txt").write_text("".join(["from,to,rate\n"] + moves))
-    (folder / "labels.txt").write_text("".join(["state,up,dead\n"] + labels))
+    for name, text in zip(FILES, (moves_text(moves), labels_text([b"up", b"dead"], marks))):
+        (folder / name).write_bytes(text)
     return Sheet(folder, states, len(moves))
 
 
@@ -52,4 +56,4 @@ def three_untils(hours):
 
 def deepest(hours):
     """As many untils, each inside the other, as a formula may have levels."""
-    return f"P >= 500000000 U {hours} tt " * 15 + "dead"
+    return f"P >= 500000000 U {hours} tt " * NESTED + "dead"

@@ -3,13 +3,18 @@
 
 `python3 examples/generate.py` says which files it changed; it changes none that are already as it writes them.
 """
+import sys
 from collections import Counter, namedtuple
 from fractions import Fraction
 from itertools import product
 from pathlib import Path
 
 HERE = Path(__file__).resolve().parent
-MILLION_HOURS = 1_000_000
+sys.path.insert(0, str(HERE.parent))
+
+from reckoning.__main__ import FILES
+from reckoning.limits import RATE_HOURS
+from reckoning.sheets import FORMULA, labels_text, moves_text
 
 # `states` are values of any kind in the order of their numbers; `moves` has a rate for each (from, to) of them, per million hours;
 # `labels` has for each name the test that says where it holds; `told` puts a state into words.
@@ -63,7 +68,7 @@ def restarted(units, upset, restart):
 
 def per_million_hours(rate, unit):
     """A rate per time unit of so many hours, as moves per million hours; it must come out whole."""
-    scaled = Fraction(rate) * MILLION_HOURS / Fraction(unit)
+    scaled = Fraction(rate) * RATE_HOURS / Fraction(unit)
     if scaled.denominator != 1:
         raise ValueError(f"{rate} per {unit} hours is {scaled} per million hours")
     return scaled.numerator
@@ -75,7 +80,7 @@ def small():
     """The small sheet of document 01."""
     up, dead = "up", "dead"
     return Sheet([up, dead], {(up, dead): 500}, {"up": lambda s: s == up, "dead": lambda s: s == dead},
-                 "P >= 1000000000 U 0 up dead", str)
+                 FORMULA.decode().rstrip("\n"), str)
 
 
 def gun_string():
@@ -207,18 +212,10 @@ def texts(sheet):
     """The files of a sheet, as name: bytes."""
     number = {state: at for at, state in enumerate(sheet.states)}
     moves = sorted((number[before], number[after], rate) for (before, after), rate in sheet.moves.items())
-    marks = [[int(holds(state)) for holds in sheet.labels.values()] for state in sheet.states]
-    return {
-        "moves.txt": text(["from,to,rate"] + [f"{before},{after},{rate}" for before, after, rate in moves]),
-        "labels.txt": text([",".join(["state", *sheet.labels])]
-                           + [",".join(map(str, [at, *row])) for at, row in enumerate(marks)]),
-        "formula.txt": text([sheet.formula]),
-        "states.txt": text([f"{at}: {sheet.told(state)}" for at, state in enumerate(sheet.states)]),
-    }
-
-
-def text(lines):
-    return "".join(line + "\n" for line in lines).encode("ascii")
+    marks = [[holds(state) for holds in sheet.labels.values()] for state in sheet.states]
+    told = "".join(f"{at}: {sheet.told(state)}\n" for at, state in enumerate(sheet.states))
+    typed = moves_text(moves), labels_text(map(str.encode, sheet.labels), marks), sheet.formula.encode() + b"\n"
+    return {**dict(zip(FILES, typed)), "states.txt": told.encode()}
 
 
 def write(folder, files):

@@ -8,9 +8,8 @@ from collections import namedtuple
 from fractions import Fraction
 from math import gcd, lcm
 
-from .chain import HOURS_OF_RATES, depth, until
-
-BILLION = 1_000_000_000
+from .chain import depth, until
+from .limits import BILLION, RATE_HOURS
 
 # `down`: the greatest whole billionth below or at all quotients from D on.
 # `up`: the least whole billionth above or at all of them.
@@ -29,7 +28,7 @@ class Run:
     def __init__(self, chain, phase):
         self.chain, self.phase, self.depth = chain, phase, 0
         g = gcd(*chain.rates.values()) or 1
-        share = Fraction(phase.hours * g, HOURS_OF_RATES)
+        share = Fraction(phase.hours * g, RATE_HOURS)
         self.x, self.y = share.numerator, share.denominator
         self.q = chain.q // g
         self.rows = [self.row(s, g) for s in range(chain.states) if s not in phase.ones | phase.zeros]

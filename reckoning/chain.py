@@ -9,9 +9,7 @@ from functools import cached_property
 from itertools import islice
 from math import ceil
 
-HOURS_OF_RATES = 1_000_000  # a rate is moves per million hours
-DEPTH_FACTOR = 2
-DEPTH_MORE = 40
+from .limits import LOAD_STEPS, RATE_HOURS, SPARE_STEPS
 
 
 @dataclass(frozen=True)
@@ -41,12 +39,12 @@ class Chain:
         return max(self.exits)
 
     def load(self, hours):
-        return Fraction(self.q * hours, HOURS_OF_RATES)
+        return Fraction(self.q * hours, RATE_HOURS)
 
 
 def depth(load):
     """D = 2 x (L rounded up) + 40."""
-    return DEPTH_FACTOR * ceil(load) + DEPTH_MORE
+    return LOAD_STEPS * ceil(load) + SPARE_STEPS
 
 
 @dataclass(frozen=True)

@@ -2,11 +2,10 @@
 
 from collections import namedtuple
 
-from .bracket import BILLION, bracket
+from .bracket import bracket
 from .chain import depth
+from .limits import BILLION, WIDTH_FACTOR
 from .verdict import COMPARISON, NO, UNDECIDED, YES, negate
-
-WIDTH_FACTOR = 4            # ends lie at most 4 x D from each quotient, and from each other
 
 # All pairs with lower from `lower[0]` to `lower[1]`, upper from `upper[0]` to `upper[1]`, and
 # upper - lower at most `width`, where that is a number.

@@ -2,12 +2,8 @@
 
 from dataclasses import dataclass
 
-from .texts import FORMULA_DIGITS, LINE_FEED, TRUE_WORD, is_number, is_word
-
-NODES = 64
-LEVELS = 16
-THRESHOLD = 1_000_000_000
-HOURS = 8_760
+from .limits import FORMULA_DIGITS
+from .texts import LINE_FEED, TRUE_WORD, is_number, is_word
 
 COMPARISONS = (b"<", b"<=", b">=", b">")
 
@@ -55,7 +51,7 @@ class Broken(Exception):
 def read_formula(text):
     """The tree of a formula text, or None where it breaks the grammar.
 
-    512 bytes hold at most 256 tokens, so the readers call each other at most that deep.
+    The text is within its byte limit, so the readers call each other less deep than Python allows.
     """
     if not text.endswith(LINE_FEED):
         return None
@@ -116,6 +112,17 @@ def number(tokens, at):
     return int(part)
 
 
+def spelled(tree):
+    """The text of a formula, without its line feed. Hours stand as they print, so that a word can take their place."""
+    if isinstance(tree, (Tt, Label)):
+        return TRUE_WORD if isinstance(tree, Tt) else tree.name
+    if isinstance(tree, P):
+        head = b"P %s %d U %s" % (tree.comparison, tree.threshold, str(tree.path.hours).encode())
+    else:
+        head = b"!" if isinstance(tree, Not) else b"&"
+    return b" ".join([head, *map(spelled, operands(tree))])
+
+
 def operands(tree):
     """The state formulas one level down."""
     if isinstance(tree, Not):
@@ -146,5 +153,5 @@ def levels(tree):
 
 
 def bounds(tree):
-    """Every `P` of the tree."""
+    """Every `P` of the tree; no other is above the first."""
     return [node for node in nodes(tree) if isinstance(node, P)]

@@ -6,11 +6,8 @@ from functools import cached_property
 from . import formula as f
 from . import texts
 from .chain import Chain
-
-EXIT_LIMIT = 64_000_000     # the rates out of one state
-LOAD_LIMIT = 64_000_000     # q x hours
-VECTOR_WORDS = 10           # for each state
-VECTOR_MORE = 512
+from .limits import (FORMULA_BYTES, VECTOR_SPARE, MOST_HOURS, MOST_LEVELS, MOST_MOVES, MOST_NODES, MOST_RATE, MOST_RATE_HOURS,
+                     MOST_STATES, MOST_THRESHOLD, SHEET_BYTES, VECTOR_PLACES)
 
 Lent = namedtuple("Lent", "lower upper verdicts moves vectors marks")
 
@@ -58,8 +55,7 @@ class Job:
 
 
 def empty_or_long(job):
-    sizes = ((job.moves_text, texts.SHEET_BYTES), (job.labels_text, texts.SHEET_BYTES),
-             (job.formula_text, texts.FORMULA_BYTES))
+    sizes = (job.moves_text, SHEET_BYTES), (job.labels_text, SHEET_BYTES), (job.formula_text, FORMULA_BYTES)
     return any(not 0 < len(text) <= most for text, most in sizes)
 
 
@@ -77,11 +73,11 @@ def wrong_first_line(job):
 
 def wrong_states(job):
     count = len(job.state_rows)
-    return not 1 <= count <= texts.STATES or any(row[0] != at for at, row in enumerate(job.state_rows))
+    return not 1 <= count <= MOST_STATES or any(row[0] != at for at, row in enumerate(job.state_rows))
 
 
 def many_moves(job):
-    return len(job.moves) > texts.MOVES
+    return len(job.moves) > MOST_MOVES
 
 
 def unknown_state(job):
@@ -102,7 +98,7 @@ def wrong_rate(job):
     totals = Counter()
     for source, _, rate in job.moves:
         totals[source] += rate
-    return any(rate == 0 for _, _, rate in job.moves) or any(t > EXIT_LIMIT for t in totals.values())
+    return any(rate == 0 for _, _, rate in job.moves) or any(t > MOST_RATE for t in totals.values())
 
 
 def broken_formula(job):
@@ -110,7 +106,7 @@ def broken_formula(job):
 
 
 def large_formula(job):
-    return len(f.nodes(job.tree)) > f.NODES or f.levels(job.tree) > f.LEVELS
+    return len(f.nodes(job.tree)) > MOST_NODES or f.levels(job.tree) > MOST_LEVELS
 
 
 def unknown_name(job):
@@ -118,18 +114,21 @@ def unknown_name(job):
 
 
 def large_number(job):
-    return any(p.threshold > f.THRESHOLD or p.path.hours > f.HOURS for p in f.bounds(job.tree))
+    return any(p.threshold > MOST_THRESHOLD or p.path.hours > MOST_HOURS for p in f.bounds(job.tree))
 
 
 def large_load(job):
-    return any(job.chain.q * p.path.hours > LOAD_LIMIT for p in f.bounds(job.tree))
+    return any(job.chain.q * p.path.hours > MOST_RATE_HOURS for p in f.bounds(job.tree))
+
+
+def lengths(states, moves, nodes):
+    """The six lengths that the caller lends for so many states, move lines and nodes."""
+    return Lent(lower=states, upper=states, verdicts=states, moves=moves, vectors=VECTOR_PLACES * states + VECTOR_SPARE, marks=nodes * states)
 
 
 def needed(job):
-    """The six lengths that the caller lends."""
-    n = len(job.state_rows)
-    return Lent(lower=n, upper=n, verdicts=n, moves=len(job.moves),
-                vectors=VECTOR_WORDS * n + VECTOR_MORE, marks=len(f.nodes(job.tree)) * n)
+    """The six lengths that the caller lends for a job."""
+    return lengths(len(job.state_rows), len(job.moves), len(f.nodes(job.tree)))
 
 
 def short_buffer(job):

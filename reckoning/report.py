@@ -2,12 +2,12 @@
 
 from collections import namedtuple
 
-from .bracket import BILLION
+from .limits import BILLION
 from .texts import fields, is_number, lines
 from .verdict import NO, UNDECIDED, WORDS, YES
 
 HEAD = b"state,lower,upper,depth,verdict"
-DIGITS = 10
+DIGITS = len(str(BILLION))      # of the longest number in a report
 
 # The ends of an outermost node other than `P`.
 ENDS_OF = {YES: (BILLION, BILLION), NO: (0, 0), UNDECIDED: (0, BILLION)}

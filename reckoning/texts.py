@@ -2,19 +2,10 @@
 
 import re
 
+from .limits import MOST_LETTERS, MOST_NAMES, SHEET_DIGITS
+
 LINE_FEED = b"\n"
 COMMA = b","
-
-SHEET_BYTES = 61_440        # moves and labels, each
-FORMULA_BYTES = 512
-
-SHEET_DIGITS = 9            # of a number in moves and labels
-FORMULA_DIGITS = 10         # of a number in the formula
-NAME_LETTERS = 12
-
-NAMES = 16
-STATES = 512
-MOVES = 4_096
 
 MOVES_HEAD = b"from,to,rate"
 MOVE_FIELDS = 3
@@ -32,7 +23,7 @@ def is_number(field, digits):
 
 def is_word(field):
     """1 to 12 letters a to z."""
-    return len(field) <= NAME_LETTERS and WORD.fullmatch(field) is not None
+    return len(field) <= MOST_LETTERS and WORD.fullmatch(field) is not None
 
 
 def is_mark(field):
@@ -68,6 +59,6 @@ def is_state_line(line, width):
 def is_labels_head(line):
     """`state`, then up to 16 names, none of them `tt`, `state` or a repeat."""
     head, *names = fields(line)
-    if head != LABELS_HEAD or len(names) > NAMES or len(set(names)) < len(names):
+    if head != LABELS_HEAD or len(names) > MOST_NAMES or len(set(names)) < len(names):
         return False
     return all(is_word(name) and name not in (TRUE_WORD, LABELS_HEAD) for name in names)

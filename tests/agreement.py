@@ -7,13 +7,14 @@ from ctypes import sizeof
 
 from reckoning.backing import TooMany
 from reckoning.judge import judge
+from reckoning.limits import MOST_STATES
 from reckoning.refusal import needed, refusal
-from reckoning.report import HEAD, refused
+from reckoning.report import refused
+from reckoning.sheets import REPORT_LINE
 from reckoning.verdict import WORDS
 from tests.library import GUARD, KINDS, Memory
 
 REPORT = ("lower", "upper", "verdicts", "depth")    # what an accepted job leaves to be judged; the other buffers it leaves at 0
-MOST_STATES = 512
 NONE = Memory(*[0] * len(Memory._fields))
 
 
@@ -65,7 +66,7 @@ def printed(called, states):
     depths = elements(called, "depth", 1) * states
     words = [WORDS[byte] if byte < len(WORDS) else byte for byte in verdicts]
     rows = zip(range(states), lower, upper, depths, words)
-    return HEAD + b"\n" + "".join(",".join(map(str, row)) + "\n" for row in rows).encode()
+    return REPORT_LINE + "".join(",".join(map(str, row)) + "\n" for row in rows).encode()
 
 
 def elements(called, name, count):

@@ -5,28 +5,30 @@ its number, or accepted with its q and depth. `python3 -m tests.definitions` tri
 enough (`--bytes N`: three texts of at most N bytes together, 2,000 if not given).
 """
 import argparse
-import json
 import pathlib
 import shutil
 import subprocess
 import sys
 import tempfile
 
-from tests.places import ROOT, VECTORS
+from reckoning.limits import MOST_MOVES, MOST_NODES, MOST_STATES
+from reckoning.refusal import Lent
+from reckoning.tests.vectors import MISSING, cases, texts_of
+from tests.places import ROOT
 
-HEAD = """-- Jobs against the definitions, by computation. Assumes nothing.
-use mathlib.Core.Path.{_≡_, refl}
-use Prim.Native.Nat.{ℕ}
-use mathlib.Core.Option.{Option, some, none}
-use Rattle.csl.specs.Text.{bytes}
-use Rattle.csl.specs.Lent.{Buffers, needed}
-use Rattle.csl.specs.Chain.{topRate}
-use Rattle.csl.specs.Report.{depthOf}
-use Rattle.csl.specs.Refusal.{Job, jobChain, jobFormula, refusal}
-use Rattle.csl.specs.Laws.Computing.{computing}
+HEAD = f"""-- Jobs against the definitions, by computation. Assumes nothing.
+use mathlib.Core.Path.{{_≡_, refl}}
+use Prim.Native.Nat.{{ℕ}}
+use mathlib.Core.Option.{{Option, some, none}}
+use Rattle.csl.specs.Text.{{bytes}}
+use Rattle.csl.specs.Lent.{{Buffers, needed}}
+use Rattle.csl.specs.Chain.{{topRate}}
+use Rattle.csl.specs.Report.{{depthOf}}
+use Rattle.csl.specs.Refusal.{{Job, jobChain, jobFormula, refusal}}
+use Rattle.csl.specs.Laws.Computing.{{computing}}
 
 abbrev enough : Buffers ℕ
-enough = needed 512 4096 64
+enough = needed {MOST_STATES} {MOST_MOVES} {MOST_NODES}
 """
 
 
@@ -36,10 +38,10 @@ def quoted(text):
 
 
 def buffers(lent):
+    """The lent lengths as a record; enough for every job where none are given."""
     if lent is None:
         return "enough"
-    names = ("lower", "upper", "verdicts", "moves", "vectors", "marks")
-    return "(record { " + "; ".join(f"{name} = {length}" for name, length in zip(names, lent)) + " })"
+    return "(record { " + "; ".join(f"{name} = {length}" for name, length in zip(Lent._fields, lent)) + " })"
 
 
 def equation(number, job):
@@ -78,20 +80,17 @@ def check(jobs):
 
 def vectors(most):
     """The vectors whose three texts have at most so many bytes together."""
-    jobs = []
-    for name in ("refusals.jsonl", "reports.jsonl"):
-        for line in (VECTORS / name).read_text().splitlines():
-            job = json.loads(line)
-            job.update((key, job[key].encode("latin-1")) for key in ("moves", "labels", "formula"))
-            if sum(len(job[key]) for key in ("moves", "labels", "formula")) <= most:
-                jobs.append(job)
-    return jobs
+    return [case for name in ("refusals.jsonl", "reports.jsonl") for case in cases(name) if sum(map(len, texts_of(case))) <= most]
 
 
 def main():
     reader = argparse.ArgumentParser()
     reader.add_argument("--bytes", type=int, default=2000)
-    jobs = vectors(reader.parse_args().bytes)
+    most = reader.parse_args().bytes
+    if MISSING:
+        print(MISSING)
+        return 1
+    jobs = vectors(most)
     good, printed = check(jobs)
     print(f"{len(jobs)} vectors: " + ("all hold" if good else "NOT ALL HOLD\n" + printed))
     return 0 if good else 1

@@ -1,62 +1,46 @@
-"""A sheet reckoned in doubles by plain uniformisation: short, with no bounds on its error, and nothing shared with `reckoning`.
+"""A sheet reckoned in doubles by plain uniformisation: short, with no bounds on its error.
 
-It reads texts that are known to be good, and answers for every node with what it makes of it at each state.
+It shares with `reckoning` the units and the reader of formulas, and nothing of what is reckoned. The texts are known to be good.
 """
-from collections import namedtuple
 from math import exp
+from operator import ge, gt, le, lt
 
-BILLION = 1_000_000_000
+from reckoning.formula import And, Label, Not, P, bounds, operands, read_formula
+from reckoning.limits import BILLION, RATE_HOURS
+
 NEGLIGIBLE = 1e-13          # of the weights, left out at the end
-
-# What a node is at each state: `holds` is True or False, `chance` the probability where the node is a `P`, else None.
-Node = namedtuple("Node", "text holds chance")
-
-COMPARED = {"<": lambda a, b: a < b, "<=": lambda a, b: a <= b, ">=": lambda a, b: a >= b, ">": lambda a, b: a > b}
+COMPARED = {b"<": lt, b"<=": le, b">=": ge, b">": gt}
 
 
 class Floats:
-    """One job. `nodes` has its nodes in the order of the formula, the outermost first."""
+    """One job: its formula, the first `P` of it, and what it makes of a node at each state."""
 
     def __init__(self, moves, labels, formula):
-        head, *rows = [line.split(",") for line in labels.decode().splitlines()]
+        head, *rows = [line.split(b",") for line in labels.splitlines()]
         self.states = range(len(rows))
-        self.marks = {name: [row[column] == "1" for row in rows] for column, name in enumerate(head)}
+        self.marks = {name: [row[column] == b"1" for row in rows] for column, name in enumerate(head)}
         self.rows = [[] for _ in self.states]
-        for line in moves.decode().splitlines()[1:]:
-            source, target, rate = map(int, line.split(","))
-            self.rows[source].append((target, rate / 1e6))
+        for line in moves.splitlines()[1:]:
+            source, target, rate = map(int, line.split(b","))
+            self.rows[source].append((target, rate / RATE_HOURS))
         self.exits = [sum(rate for _, rate in row) for row in self.rows]
-        self.nodes = []
-        self.node(iter(formula.decode().split()))
+        self.tree = read_formula(formula)
+        self.outermost_until = bounds(self.tree)[0]
 
-    @property
-    def outermost_until(self):
-        """The first `P` of the formula: no other is above it."""
-        return next(node for node in self.nodes if node.chance is not None)
+    def holds(self, node):
+        """Whether a node holds, at each state."""
+        if isinstance(node, P):
+            return [COMPARED[node.comparison](each, node.threshold / BILLION) for each in self.chance(node)]
+        below = [self.holds(each) for each in operands(node)]
+        if isinstance(node, Not):
+            return [not each for each in below[0]]
+        if isinstance(node, And):
+            return [a and b for a, b in zip(*below)]
+        return self.marks[node.name] if isinstance(node, Label) else [True] * len(self.states)
 
-    def node(self, tokens):
-        """The node that these tokens begin with."""
-        at = len(self.nodes)
-        self.nodes.append(None)
-        head, chance = next(tokens), None
-        if head == "tt":
-            text, holds = head, [True] * len(self.states)
-        elif head == "!":
-            inner = self.node(tokens)
-            text, holds = f"! {inner.text}", [not each for each in inner.holds]
-        elif head == "&":
-            left, right = self.node(tokens), self.node(tokens)
-            text, holds = f"& {left.text} {right.text}", [a and b for a, b in zip(left.holds, right.holds)]
-        elif head == "P":
-            comparison, threshold, path, hours = (next(tokens) for _ in range(4))
-            first, second = self.node(tokens), self.node(tokens)
-            text = f"P {comparison} {threshold} {path} {hours} {first.text} {second.text}"
-            chance = self.until(int(hours), first.holds, second.holds)
-            holds = [COMPARED[comparison](each, int(threshold) / BILLION) for each in chance]
-        else:
-            text, holds = head, self.marks[head]
-        self.nodes[at] = Node(text, holds, chance)
-        return self.nodes[at]
+    def chance(self, node):
+        """The probability of a `P`, at each state."""
+        return self.until(node.path.hours, *map(self.holds, operands(node)))
 
     def until(self, hours, first, second):
         """The probability of an until at each state."""

@@ -10,18 +10,20 @@ import time
 from collections import namedtuple
 
 from reckoning.__main__ import read_texts
-from tests import limits
+from reckoning.limits import SHEET_BYTES
+from reckoning.tests.vectors import MISSING, texts_of
+from tests import edges
 from tests.agreement import library_faults, tried
 from tests.coverage import Covered
 from tests.definitions import vectors
 from tests.jobs import random_job
 from tests.library import ENOUGH
 from tests.mutations import mutated, some_lent
-from tests.places import FOLDERS, VECTORS
+from tests.places import FOLDERS
 from tests.record import Record
 
 MADE_SEEDS = 30
-MOST_BYTES = 70_000         # of a text, a little over the limit
+MOST_BYTES = SHEET_BYTES + 8_560        # of a text, a little over the limit
 FAVOURED_BYTES = 200        # of three texts: jobs of less are chosen alike, longer ones the less the longer they are
 MOST_STATES = 8             # of a report that is judged
 LENT_EVERY = 4              # jobs with lent lengths of their own
@@ -38,9 +40,8 @@ Ended = namedtuple("Ended", "reached unseen job lent faults")
 def seeds(rng):
     """The jobs to begin with: the examples, the vectors where they are there, the limits, and a few small made ones."""
     jobs = [tuple(read_texts(folder)) for folder in FOLDERS]
-    if VECTORS.is_dir():
-        jobs += [(vector["moves"], vector["labels"], vector["formula"]) for vector in vectors(3 * MOST_BYTES)]
-    jobs += [job for pair in limits.pairs().values() for job in pair]
+    jobs += [] if MISSING else map(texts_of, vectors(3 * MOST_BYTES))
+    jobs += [job for pair in edges.pairs().values() for job in pair]
     return jobs + [random_job(rng) for _ in range(MADE_SEEDS)]
 
 

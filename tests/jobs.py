@@ -1,24 +1,16 @@
-"""Jobs for tests: made, damaged, and put at the limits, from a seeded generator.
+"""Jobs for tests, made and damaged from a seeded generator. Jobs at the limits are in `edges`.
 
 A job is a tuple of the three texts (moves, labels, formula) as bytes.
 """
 from reckoning.bracket import bracket
 from reckoning.chain import Chain
+from reckoning.formula import COMPARISONS
+from reckoning.limits import BILLION, MOST_LETTERS, MOST_LOAD, MOST_RATE, RATE_HOURS, most_hours
+from reckoning.sheets import labels_text, moves_text
 
-MOST_RATE = 64_000_000
-MOST_LOAD = 64_000_000
-NAMES = [b"up", b"dead", b"power", b"gamma", b"locator", b"gun", b"wet", b"hot", b"t", b"ta", b"tta", b"s", b"stat", b"states", b"abcdefghijkl"]
-SIGNS = [b"<", b"<=", b">=", b">"]
+NAMES = [b"up", b"dead", b"power", b"gamma", b"locator", b"gun", b"wet", b"hot", b"t", b"ta", b"tta", b"s", b"stat", b"states",
+         b"abcdefghijklmnopqrstuvwxyz"[:MOST_LETTERS]]
 TELLING = b"0123456789,\n aPU!&tx<=>z/:`{+-\x1f\r\t\x00\x8a\xff"    # bytes that mean something, and those just beside them
-
-
-def moves_text(moves):
-    return b"from,to,rate\n" + b"".join(b"%d,%d,%d\n" % move for move in moves)
-
-
-def labels_text(names, rows):
-    lines = (b",".join([b"%d" % s, *(b"%d" % mark for mark in row)]) for s, row in enumerate(rows))
-    return b",".join([b"state", *names]) + b"\n" + b"".join(line + b"\n" for line in lines)
 
 
 class Sheet:
@@ -49,9 +41,9 @@ class Sheet:
     def marks(self, name):
         return tuple(bool(row[self.names.index(name)]) for row in self.rows)
 
-    def hours(self, rng, most_load):
-        """Hours whose load is at most `most_load` × 1,000,000."""
-        most = 8_760 if not self.chain.q else min(8_760, most_load * 1_000_000 // self.chain.q)
+    def hours(self, rng, most_load=MOST_LOAD):
+        """Hours whose load is at most `most_load`."""
+        most = most_hours(self.chain.q, most_load * RATE_HOURS)
         return rng.choice([0, most, rng.randint(0, most)])
 
 
@@ -69,29 +61,29 @@ def random_formula(rng, sheet, levels, most_load):
     if kind == "&":
         return [b"&", *first, *second]
     hours = sheet.hours(rng, most_load)
-    threshold = rng.choice([0, 1, 10**9, rng.randint(0, 10**9), near(rng, sheet, hours)])
-    return [b"P", rng.choice(SIGNS), b"%d" % threshold, b"U", b"%d" % hours, *first, *second]
+    threshold = rng.choice([0, 1, BILLION, rng.randint(0, BILLION), near(rng, sheet, hours)])
+    return [b"P", rng.choice(COMPARISONS), b"%d" % threshold, b"U", b"%d" % hours, *first, *second]
 
 
 def near(rng, sheet, hours):
     """A threshold that lies close to some until's probability, so that verdicts come out undecided."""
     first, second = (sheet.marks(rng.choice(sheet.names)) for _ in range(2))
     bounds = rng.choice(bracket(sheet.chain, first, second, hours))
-    return max(0, min(10**9, bounds.down + rng.randint(-1, 2)))
+    return max(0, min(BILLION, bounds.down + rng.randint(-1, 2)))
 
 
 def near_formula(rng, sheet, hours):
     """An until whose threshold is one of the two whole billionths about its own probability at some state."""
     names = rng.choice(sheet.names), rng.choice(sheet.names)
     bounds = rng.choice(bracket(sheet.chain, *map(sheet.marks, names), hours))
-    return [b"P", rng.choice(SIGNS), b"%d" % rng.choice(bounds), b"U", b"%d" % hours, *names]
+    return [b"P", rng.choice(COMPARISONS), b"%d" % rng.choice(bounds), b"U", b"%d" % hours, *names]
 
 
 def random_job(rng, most_states=6, levels=4, most_load=3):
     sheet = Sheet(rng, most_states)
     if rng.random() < 0.3:
         inner = near_formula(rng, sheet, sheet.hours(rng, most_load))
-        outer = [b"P", rng.choice(SIGNS), b"%d" % rng.randint(0, 10**9), b"U", b"%d" % sheet.hours(rng, most_load)]
+        outer = [b"P", rng.choice(COMPARISONS), b"%d" % rng.randint(0, BILLION), b"U", b"%d" % sheet.hours(rng, most_load)]
         other = [rng.choice(sheet.names)]
         tokens = outer + (inner + other if rng.random() < 0.5 else other + inner)
     else:

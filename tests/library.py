@@ -10,7 +10,8 @@ import subprocess
 import sys
 from collections import namedtuple
 
-from reckoning.refusal import Lent
+from reckoning.limits import MOST_MOVES, MOST_NODES, MOST_STATES
+from reckoning.refusal import Lent, lengths
 from tests.fenced import Fenced
 from tests.places import ARCHIVE, ROOT, TARGET, is_stale
 
@@ -21,7 +22,7 @@ Memory = namedtuple("Memory", (*Lent._fields, "depth"))
 NUMBER, BYTE, WORD = ctypes.c_uint32, ctypes.c_uint8, ctypes.c_uint64
 KINDS = Memory(lower=NUMBER, upper=NUMBER, verdicts=BYTE, moves=WORD, vectors=WORD, marks=BYTE, depth=WORD)
 
-ENOUGH = Lent(lower=512, upper=512, verdicts=512, moves=4_096, vectors=5_632, marks=32_768)     # for every job
+ENOUGH = lengths(MOST_STATES, MOST_MOVES, MOST_NODES)           # for every job
 GUARD = 67                  # elements, an odd number: no lent part is aligned for more than its own type
 MORE = 64                   # elements that can be lent beyond `ENOUGH`
 PATTERN = 1 << 20           # bytes

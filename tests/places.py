@@ -8,7 +8,6 @@ DEEP = TARGET / "bin" / "deep_formulas"
 ARCHIVE = TARGET / "staticlib" / "libsebdyqul.a"
 EXAMPLES = ROOT / "examples"
 FOLDERS = sorted(path.parent for path in EXAMPLES.glob("*/moves.txt"))
-VECTORS = ROOT.parent / "shared" / "vectors"
 
 
 def is_stale(built):

@@ -1,6 +1,6 @@
 """Runs everything: `rt ci` (proofs, must-fail edits, programs), then the project's own tests. Stops at the first failure.
 
-The last line is `N passed, M failed`; N counts the proved and the tested.
+Tests that were skipped are told, each with its reason. The last line is `N passed, M failed`; N counts what was proved and what was tested.
 """
 import pathlib
 import re
@@ -27,15 +27,29 @@ def prove():
     return passed, failed
 
 
-def test():
-    """What the project's own tests passed and failed."""
+class Result(unittest.TextTestResult):
+    """Counts the tests that passed: one that is skipped, as a whole or in a part, is none of them."""
+
+    passed = 0
+
+    def addSuccess(self, test):
+        super().addSuccess(test)
+        self.passed += 1
+
+
+def suite():
+    """The project's own tests."""
     sys.path.insert(0, str(ROOT))
     loader = unittest.TestLoader()
-    suite = unittest.TestSuite(
+    return unittest.TestSuite(
         loader.discover(str(ROOT / folder), top_level_dir=str(ROOT)) for folder in ("reckoning/tests", "tests"))
-    result = unittest.TextTestRunner(stream=sys.stdout, verbosity=1, failfast=True).run(suite)
+
+
+def test(tests):
+    """What these tests passed and failed, and a line for each that was skipped."""
+    result = unittest.TextTestRunner(stream=sys.stdout, verbosity=1, failfast=True, resultclass=Result).run(tests)
     failed = len(result.failures) + len(result.errors) + len(result.unexpectedSuccesses)
-    return result.testsRun - failed - len(result.skipped), failed
+    return result.passed, failed, [f"skipped: {test.id()}: {reason}" for test, reason in result.skipped]
 
 
 def main():
@@ -44,9 +58,9 @@ def main():
     proved = time.monotonic()
     print(f"proofs: {proved - begun:.0f} s", flush=True)
     if not failed:
-        more, failed = test()
+        more, failed, skipped = test(suite())
         passed += more
-        print(f"tests: {time.monotonic() - proved:.0f} s")
+        print(f"tests: {time.monotonic() - proved:.0f} s", *skipped, sep="\n")
     print(f"{passed} passed, {failed} failed")
     return 1 if failed else 0
 

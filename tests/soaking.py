@@ -3,6 +3,7 @@ import random
 import time
 from collections import Counter, namedtuple
 
+from reckoning.limits import MOST_LOAD
 from tests.agreement import library_faults, printed, tried
 from tests.jobs import damaged_job, random_job
 from tests.library import ENOUGH
@@ -21,7 +22,7 @@ def some_job(rng):
     """A made job, small or larger, a damaged or a bent one, or one made of two."""
     kind = rng.randrange(10)
     if kind == 0:
-        return random_job(rng, most_states=24, levels=3, most_load=64)
+        return random_job(rng, most_states=24, levels=3, most_load=MOST_LOAD)
     if kind <= 2:
         return random_job(rng)
     if kind <= 4:

@@ -10,7 +10,8 @@ from reckoning.ends import Rules
 from reckoning.formula import P
 from reckoning.judge import report_depth
 from reckoning.refusal import refusal
-from reckoning.report import ENDS_OF, HEAD, refused
+from reckoning.report import ENDS_OF, refused
+from reckoning.sheets import REPORT_LINE
 from reckoning.verdict import of_ends
 
 
@@ -22,7 +23,7 @@ def answer(moves, labels, formula):
     rules = Rules(job.chain)
     depth = report_depth(rules, job.tree)
     lines = [f"{state},{lower},{upper},{depth},{word}" for state, (lower, upper, word) in enumerate(rows(rules, job.tree))]
-    return HEAD + b"\n" + "".join(line + "\n" for line in lines).encode()
+    return REPORT_LINE + "".join(line + "\n" for line in lines).encode()
 
 
 def rows(rules, tree):

@@ -3,14 +3,13 @@ import unittest
 from ctypes import sizeof
 
 from reckoning.refusal import needed, refusal
+from reckoning.sheets import FORMULA, LABELS, MOVES, REPORT, labels_text, moves_text
 from tests.agreement import library_faults, printed
-from tests.jobs import labels_text, moves_text
 from tests.library import GUARD, KINDS, Library, Memory
 
-MOVES = moves_text([(0, 1, 500), (1, 2, 700)])
-LABELS = labels_text([b"up", b"dead"], [[1, 0], [1, 0], [0, 1]])
-ACCEPTED = MOVES, LABELS, b"P < 500000000 U 8 up dead\n"
-REFUSED = MOVES, LABELS, b"gas\n"
+SHEET = moves_text([(0, 1, 500), (1, 2, 700)]), labels_text([b"up", b"dead"], [[1, 0], [1, 0], [0, 1]])
+ACCEPTED = *SHEET, b"P < 500000000 U 8 up dead\n"
+REFUSED = *SHEET, b"gas\n"
 
 
 def changed(called, name, at):
@@ -67,11 +66,9 @@ class Falsified(unittest.TestCase):
 class Printed(unittest.TestCase):
     def test_small_sheet(self):
         """What document 01 prints in full, and a refusal."""
-        sheet = moves_text([(0, 1, 500)]), labels_text([b"up", b"dead"], [[1, 0], [0, 1]])
         library = Library()
-        self.assertEqual(printed(library.check((*sheet, b"P >= 1000000000 U 0 up dead\n")), 2),
-                         b"state,lower,upper,depth,verdict\n0,0,0,40,no\n1,1000000000,1000000000,40,yes\n")
-        self.assertEqual(printed(library.check((*sheet, b"\n")), 2), b"refused\n10\n")
+        self.assertEqual(printed(library.check((MOVES, LABELS, FORMULA)), 2), REPORT)
+        self.assertEqual(printed(library.check((MOVES, LABELS, b"\n")), 2), b"refused\n10\n")
 
 
 if __name__ == "__main__":

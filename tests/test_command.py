@@ -4,9 +4,11 @@ import subprocess
 import tempfile
 import unittest
 
+from reckoning.limits import MOST_HOURS, MOST_LEVELS, MOST_MOVES, MOST_RATE
 from reckoning.refusal import refusal
 from reckoning.report import refused
-from tests.limits import SMALL_LABELS, SMALL_MOVES, load, moves, moves_and, small
+from reckoning.sheets import LABELS, MOVES, REPORT_LINE
+from tests.edges import levels, load, moves, small, typed
 from tests.places import ROOT
 from tests.program import put
 
@@ -16,20 +18,20 @@ SAID = re.compile(r"sheetcheck: refused, since [a-z].*\.\n")
 
 # For each number that three texts can be refused with, the example that document 01 gives beside it.
 TURNED_BACK = {
-    1: (SMALL_MOVES, SMALL_LABELS, b""),
-    2: moves_and(b"0,1"),
-    3: (SMALL_MOVES, b"state,up,up\n0,1,0\n1,0,1\n", b"tt\n"),
-    4: (SMALL_MOVES, b"state,up\n1,0\n", b"tt\n"),
-    5: moves(4097),
-    6: moves_and(b"0,9,5"),
-    7: moves_and(b"0,0,5"),
-    8: moves_and(b"1,0,5\n0,1,5"),
-    9: moves_and(b"0,1,0"),
+    1: (MOVES, LABELS, b""),
+    2: typed(b"0,1"),
+    3: (MOVES, b"state,up,up\n0,1,0\n1,0,1\n", b"tt\n"),
+    4: (MOVES, b"state,up\n1,0\n", b"tt\n"),
+    5: moves(MOST_MOVES + 1),
+    6: typed(b"0,9,5"),
+    7: typed(b"0,0,5"),
+    8: typed(b"1,0,5\n0,1,5"),
+    9: typed(b"0,1,0"),
     10: small(b"& up"),
-    11: small(b"! " * 16 + b"up"),
+    11: levels(MOST_LEVELS + 1),
     12: small(b"gas"),
-    13: small(b"P < 1 U 8761 up dead"),
-    14: load(64_000_000, 2),
+    13: load(500, MOST_HOURS + 1),
+    14: load(MOST_RATE, 2),
 }
 
 
@@ -63,7 +65,7 @@ class Command(unittest.TestCase):
 
     def test_says_nothing_of_a_report(self):
         printed, said = command("examples/small")
-        self.assertTrue(printed.startswith(b"state,lower,upper,depth,verdict\n"))
+        self.assertTrue(printed.startswith(REPORT_LINE))
         self.assertEqual(said, "")
 
     def test_wants_one_folder(self):

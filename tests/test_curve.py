@@ -14,16 +14,17 @@ from xml.etree import ElementTree
 
 from reckoning.__main__ import read_texts
 from reckoning.judge import judge
+from reckoning.limits import BILLION, FORMULA_BYTES
 from reckoning.report import read_report
-from reckoning.tests.sheets import LABELS, MOVES, row, texts
+from reckoning.sheets import LABELS, MOVES, REPORT_LINE
+from reckoning.tests.chains import row, texts
+from tests.places import EXAMPLES, FOLDERS, ROOT
+from tests.program import put
 from tests.standin import answer
 
-ROOT = Path(__file__).resolve().parent.parent
-EXAMPLES = ROOT / "examples"
 TOOLS = ROOT / "tools"
 STANDIN = shlex.join(["env", f"PYTHONPATH={ROOT}", sys.executable, "-m", "tests.standin"])
 SVG = "{http://www.w3.org/2000/svg}"
-BILLION = 1_000_000_000
 PIXEL = 0.02                # coordinates are rounded to a hundredth
 
 
@@ -134,15 +135,14 @@ class Curve(unittest.TestCase):
     def test_ends_apart(self):
         """An undecided operand drives the ends apart."""
         with tempfile.TemporaryDirectory() as folder:
-            moves, labels = texts(row(60, 20_000))
-            write(folder, moves, labels, b"P >= 600000000 U 5 tt P > 0 U 1 up dead\n")
+            put((*texts(row(60, 20_000)), b"P >= 600000000 U 5 tt P > 0 U 1 up dead\n"), folder)
             picture = self.drawn(folder, "100", "300", "--state", "50")
             self.shows(picture, self.rows(folder, b"P >= 600000000 U %d tt P > 0 U 1 up dead\n", (100, 300), 50))
             self.assertIn("state 50", picture.words())
 
     def test_one_point_and_flat_curves(self):
         with tempfile.TemporaryDirectory() as folder:
-            write(folder, MOVES, LABELS, b"P >= 0 U 0 up dead\n")
+            put((MOVES, LABELS, b"P >= 0 U 0 up dead\n"), folder)
             self.shows(self.drawn(folder, "0"), self.rows(folder, b"P >= 0 U %d up dead\n", (0,), 0))
             self.shows(self.drawn(folder, "5", "--state", "1"), self.rows(folder, b"P >= 0 U %d up dead\n", (5,), 1))
 
@@ -164,17 +164,17 @@ class NoPicture(unittest.TestCase):
         self.refuses("refused with 14 at 110 h", EXAMPLES / "polling-3", "100", "110")
         self.refuses("refused with 13 at 9000 h", EXAMPLES / "small", "9000")
         with tempfile.TemporaryDirectory() as folder:
-            write(folder, MOVES, LABELS, b"P >= 5 U 2 up gas\n")
+            put((MOVES, LABELS, b"P >= 5 U 2 up gas\n"), folder)
             out = Path(folder) / "curve.svg"
             self.refuses("refused with 12 at 1 h", folder, "1", "--out", out)
             self.assertFalse(out.exists())
 
     def test_formula(self):
-        for formula, said in ((b"& up ! dead\n", "no until"), (b"", "no until"), (b"P >=\n", "grammar"), (b"P >= 5 W 2 up dead\n", "grammar"),
-                              (b"P >= 5 U 2 up\n", "refused with 10"), (b"P >= 5 U 2 up  dead\n", "refused with 10"),
-                              (b"P >= 5 U 2 up dead dead\n", "refused with 10"), (b"\xff\n", "decode")):
+        for formula, said in ((b"& up ! dead\n", "no until"), (b"", "grammar"), (b"P >=\n", "grammar"), (b"P >= 5 W 2 up dead\n", "grammar"),
+                              (b"P >= 5 U 2 up\n", "grammar"), (b"P >= 5 U 2 up  dead\n", "grammar"), (b"\xff\n", "grammar"),
+                              (b"P >= 5 U 2 up dead dead\n", "grammar"), (b"! " * FORMULA_BYTES + b"up\n", "byte limit")):
             with self.subTest(formula), tempfile.TemporaryDirectory() as folder:
-                write(folder, MOVES, LABELS, formula)
+                put((MOVES, LABELS, formula), folder)
                 self.refuses(said, folder, "1")
 
     def test_sheet_and_state(self):
@@ -185,7 +185,7 @@ class NoPicture(unittest.TestCase):
         self.refuses("cannot run", EXAMPLES / "small", "1", run="/nowhere/program")
         self.refuses("printed no report", EXAMPLES / "small", "1", run="echo")
         self.refuses("printed no report", EXAMPLES / "small", "1", run="echo refused")
-        short = shlex.join(["sh", "-c", r"printf 'state,lower,upper,depth,verdict\n0,1\n'"])
+        short = shlex.join(["printf", REPORT_LINE.decode() + "0,1\n%.0s"])
         self.refuses("no state 0", EXAMPLES / "small", "1", run=short)
 
     def test_arguments(self):
@@ -196,18 +196,13 @@ class NoPicture(unittest.TestCase):
 
 class Standin(unittest.TestCase):
     def test_prints_what_the_rules_allow(self):
-        for path in EXAMPLES.glob("*/moves.txt"):
-            with self.subTest(path.parent.name):
-                sheet = read_texts(path.parent)
+        for folder in FOLDERS:
+            with self.subTest(folder.name):
+                sheet = read_texts(folder)
                 self.assertEqual(judge(*sheet, answer(*sheet)), [])
 
     def test_refuses(self):
         self.assertEqual(answer(MOVES, LABELS, b"gas\n"), b"refused\n12\n")
-
-
-def write(folder, moves, labels, formula):
-    for name, text in (("moves.txt", moves), ("labels.txt", labels), ("formula.txt", formula)):
-        (Path(folder) / name).write_bytes(text)
 
 
 if __name__ == "__main__":

@@ -1,32 +1,31 @@
-"""The definitions compute, and agree with the second reckoning, on a dozen jobs; and they do not prove what is false."""
+"""The definitions compute, and agree with the second reckoning, on a job for each number and some accepted; and they do not prove what is false."""
 import unittest
 
-from reckoning.refusal import Job, Lent, refusal
+from reckoning.limits import MOST_HOURS, MOST_LEVELS, MOST_RATE, MOST_STATES, RATE_HOURS
+from reckoning.refusal import Job, lengths, refusal
+from reckoning.sheets import FULL_MOVES, LABELS, MOVES, MOVES_LINE, labels_text, moves_text, until
 from tests import definitions
 
-LABELS = b"state,up,dead\n0,1,0\n1,0,1\n"
-MOVES = b"from,to,rate\n0,1,500\n"
-
-# name, moves, labels, formula, lent lengths
+# moves, labels, formula, lent lengths
 JOBS = (
-    (MOVES, LABELS, b"P <= 10000000 U 8 up P > 7 U 8760 up ! dead\n", None),
-    (b"from,to,rate\n0,1,500", LABELS, b"up\n", None),
-    (b"from,to,rate\n0,1,05\n", LABELS, b"up\n", None),
+    (MOVES, LABELS, b"P <= 10000000 U 8 up P > 7 U %d up ! dead\n" % MOST_HOURS, None),
+    (MOVES[:-1], LABELS, b"up\n", None),
+    (MOVES_LINE + b"0,1,05\n", LABELS, b"up\n", None),
     (MOVES, b"state,up,up\n0,1,0\n1,0,1\n", b"up\n", None),
     (MOVES, b"state,up\n1,1\n0,0\n", b"up\n", None),
-    (b"from,to,rate\n0,2,5\n", LABELS, b"up\n", None),
-    (b"from,to,rate\n1,1,5\n", LABELS, b"up\n", None),
-    (b"from,to,rate\n1,0,5\n0,1,5\n", LABELS, b"up\n", None),
-    (b"from,to,rate\n0,1,64000001\n", LABELS, b"up\n", None),
+    (moves_text([(0, 2, 5)]), LABELS, b"up\n", None),
+    (moves_text([(1, 1, 5)]), LABELS, b"up\n", None),
+    (moves_text([(1, 0, 5), (0, 1, 5)]), LABELS, b"up\n", None),
+    (moves_text([(0, 1, MOST_RATE + 1)]), LABELS, b"up\n", None),
     (MOVES, LABELS, b"& up\n", None),
-    (MOVES, LABELS, b"! " * 16 + b"up\n", None),
+    (MOVES, LABELS, b"! " * MOST_LEVELS + b"up\n", None),
     (MOVES, LABELS, b"& up gas\n", None),
-    (MOVES, LABELS, b"P < 1 U 8761 up dead\n", None),
-    (b"from,to,rate\n0,1,64000000\n", LABELS, b"P < 1 U 2 up dead\n", None),
-    (b"from,to,rate\n0,1,1000000\n", LABELS, b"P < 1 U 63 up dead\n", Lent(2, 2, 2, 1, 532, 6)),
-    (MOVES, LABELS, b"P < 1 U 1 up dead\n", Lent(2, 2, 2, 1, 532, 5)),
+    (MOVES, LABELS, until(MOST_HOURS + 1), None),
+    (FULL_MOVES, LABELS, until(2), None),
+    (moves_text([(0, 1, RATE_HOURS)]), LABELS, until(63), lengths(2, 1, 3)),
+    (MOVES, LABELS, until(1), lengths(2, 1, 3)._replace(marks=5)),
     (b"", LABELS, b"up\n", None),
-    (MOVES, b"state\n" + b"".join(b"%d\n" % s for s in range(513)), b"tt\n", None),
+    (MOVES, labels_text([], [[]] * (MOST_STATES + 1)), b"tt\n", None),
 )
 
 

@@ -5,15 +5,14 @@ import unittest
 
 from examples.generate import SHEETS, texts
 from reckoning.__main__ import read_texts
-from reckoning.formula import P, bounds, operands
+from reckoning.formula import P, bounds, operands, spelled
 from reckoning.judge import allowed_ends, judge
+from reckoning.limits import BILLION
 from reckoning.refusal import Job, refusal
 from tests.floats import Floats
 from tests.places import EXAMPLES, FOLDERS, ROOT
 
 COMMAND = ROOT / "sheetcheck"
-
-BILLION = 1_000_000_000
 CLOSE = 1e-6                # what a double may be off the ends
 TABLE_LINE = re.compile(r"\| (\d+) \| [^|]+ \| ([0-9.]+) \| (yes|no) \|")
 INDEX_LINE = re.compile(r"\| `([a-z0-9-]+)` \| (\d+) \| (\d+) \| .*")
@@ -57,9 +56,10 @@ class Doubles(unittest.TestCase):
     def test_ends_of_the_outermost_until(self):
         for folder in FOLDERS:
             moves, labels, formula = read_texts(folder)
-            until = Floats(moves, labels, formula).outermost_until
-            allowed = allowed_ends(moves, labels, until.text.encode() + b"\n")
-            for state, (chance, lower, upper) in enumerate(zip(until.chance, allowed.lower, allowed.upper, strict=True)):
+            floats = Floats(moves, labels, formula)
+            until = floats.outermost_until
+            allowed = allowed_ends(moves, labels, spelled(until) + b"\n")
+            for state, (chance, lower, upper) in enumerate(zip(floats.chance(until), allowed.lower, allowed.upper, strict=True)):
                 with self.subTest(folder.name, state=state):
                     self.assertAlmostEqual(chance, lower[1] / BILLION, delta=CLOSE)
                     self.assertAlmostEqual(chance, upper[0] / BILLION, delta=CLOSE)
@@ -69,21 +69,21 @@ class Doubles(unittest.TestCase):
         for folder in FOLDERS:
             with self.subTest(folder.name):
                 sheet = read_texts(folder)
-                holds = Floats(*sheet).nodes[0].holds
-                self.assertEqual(allowed_ends(*sheet).verdicts, [{word(each)} for each in holds])
+                floats = Floats(*sheet)
+                self.assertEqual(allowed_ends(*sheet).verdicts, [{word(each)} for each in floats.holds(floats.tree)])
 
 
 class Told(unittest.TestCase):
     def test_tables(self):
         for folder in FOLDERS:
             floats = Floats(*read_texts(folder))
+            chances, holds = floats.chance(floats.outermost_until), floats.holds(floats.tree)
             lines = TABLE_LINE.findall((folder / "README.md").read_text())
             self.assertGreaterEqual(len(lines), 2, folder.name)
             for state, chance, verdict in lines:
                 with self.subTest(folder.name, state=state):
                     decimals = len(chance.partition(".")[2])
-                    exact = floats.outermost_until.chance[int(state)]
-                    self.assertEqual((chance, verdict), (f"{exact:.{decimals}f}", word(floats.nodes[0].holds[int(state)])))
+                    self.assertEqual((chance, verdict), (f"{chances[int(state)]:.{decimals}f}", word(holds[int(state)])))
 
     def test_formulas(self):
         for folder in FOLDERS:

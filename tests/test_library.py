@@ -4,8 +4,10 @@ import unittest
 from concurrent.futures import ThreadPoolExecutor
 
 from reckoning.__main__ import read_texts
-from reckoning.refusal import Lent, needed, refusal
-from tests import limits
+from reckoning.limits import MOST_HOURS, MOST_MOVES, MOST_NODES, MOST_RATE
+from reckoning.refusal import Lent, lengths, needed, refusal
+from reckoning.sheets import NO_MOVES, moves_text
+from tests import edges
 from tests.agreement import library_faults, printed, refusal_number, tried
 from tests.jobs import damaged_job, random_job
 from tests.library import ENOUGH, Library
@@ -19,7 +21,7 @@ AS_PROGRAM = 120
 AT_ONCE = 10
 NOTHING = Lent(0, 0, 0, 0, 0, 0)
 ONES = Lent(1, 1, 1, 1, 1, 1)
-FEW = Lent(lower=8, upper=8, verdicts=8, moves=8, vectors=600, marks=200)
+FEW = lengths(8, 8, 24)
 
 
 class LibraryTest(unittest.TestCase):
@@ -38,7 +40,7 @@ class LibraryTest(unittest.TestCase):
 
 
 class Jobs(LibraryTest):
-    """Made jobs, damaged ones and those at the limits."""
+    """Made jobs, damaged ones and those at the edges."""
 
     def test_damaged_jobs(self):
         rng = random.Random(11)
@@ -53,7 +55,7 @@ class Jobs(LibraryTest):
         self.assertEqual({each.number for each in called}, {0})
 
     def test_limits(self):
-        for name, (meets, passes) in limits.pairs().items():
+        for name, (meets, passes) in edges.pairs().items():
             with self.subTest(name):
                 self.assertNotEqual(self.agrees(meets)[0].number, self.agrees(passes)[0].number)
 
@@ -84,12 +86,12 @@ class EveryByte(LibraryTest):
     """Sheets with long numbers and names, in which each byte is replaced, dropped and cut at, one at a time."""
 
     SHEETS = (
-        (b"from,to,rate\n0,1,12345678\n1,0,63999999\n", b"state,up,abcdefghijkl,t\n0,1,0,1\n1,0,1,0\n",
+        (moves_text([(0, 1, 12_345_678), (1, 0, MOST_RATE - 1)]), b"state,up,abcdefghijkl,t\n0,1,0,1\n1,0,1,0\n",
          b"& ! up P >= 123456789 U 1 abcdefghijkl t\n"),
-        (b"from,to,rate\n123456789,987654321,555555555\n", b"state\n0\n", b"tt\n"),
-        (b"from,to,rate\n", b"state\n123456789\n", b"tt\n"),
-        (b"from,to,rate\n", b"state\n0\n", b"P < 1987654321 U 1876543219 tt ! & tt tt\n"),
-        (b"from,to,rate\n", b"state,ta\n0,1\n", b"P <= 1000000000 U 8760 ta ! ta\n"),
+        (moves_text([(123_456_789, 987_654_321, 555_555_555)]), b"state\n0\n", b"tt\n"),
+        (NO_MOVES, b"state\n123456789\n", b"tt\n"),
+        (NO_MOVES, b"state\n0\n", b"P < 1987654321 U 1876543219 tt ! & tt tt\n"),
+        (NO_MOVES, b"state,ta\n0,1\n", b"P <= 1000000000 U %d ta ! ta\n" % MOST_HOURS),
     )
     ALWAYS = b"/09:`az{,\n \x00\xff"
 
@@ -116,7 +118,7 @@ class Buffers(LibraryTest):
         """Jobs whose six lengths are all above 0, and the lengths."""
         rng = random.Random(14)
         jobs = [read_texts(folder) for folder in FOLDERS] + [random_job(rng) for _ in range(25)]
-        jobs += [limits.load(64_000_000, 1), limits.moves(4_096), limits.nodes(64)]
+        jobs += [edges.load(MOST_RATE, 1), edges.moves(MOST_MOVES), edges.nodes(MOST_NODES)]
         found = [(job, needed(refusal(*job))) for job in jobs]
         return [(job, need) for job, need in found if need.moves]
 
@@ -147,7 +149,7 @@ class Buffers(LibraryTest):
             self.assertEqual(self.agrees(job, short)[0].number, 15)
 
     def test_no_moves_need_no_words(self):
-        job = limits.states(2)
+        job = edges.states(2)
         self.assertEqual(self.agrees(job, needed(refusal(*job)))[0].number, 0)
         self.assertEqual(needed(refusal(*job)).moves, 0)
 
@@ -164,7 +166,7 @@ def refused_jobs():
     """A job for each number that the texts alone can be refused with."""
     rng = random.Random(16)
     jobs = [make(rng) for _ in range(DAMAGED // 2) for make in (damaged_job, bent_job)]
-    jobs += [job for pair in limits.pairs().values() for job in pair]
+    jobs += [job for pair in edges.pairs().values() for job in pair]
     found = {refusal_number(job): job for job in jobs}
     del found[None]
     return found

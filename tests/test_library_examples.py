@@ -8,7 +8,7 @@ import unittest
 
 from reckoning.__main__ import read_texts
 from reckoning.report import refused
-from tests import limits
+from tests import edges
 from tests.agreement import refusal_number
 from tests.jobs import damaged_job
 from tests.library import build_archive
@@ -53,7 +53,7 @@ class LibraryExamples(unittest.TestCase):
                 self.assertEqual(run(job, command=example), refused(refusal_number(job)), job)
 
     def test_limits_within_the_stack(self):
-        for name, pair in limits.pairs().items():
+        for name, pair in edges.pairs().items():
             for job in pair:
                 with self.subTest(name):
                     self.assertEqual(run(job, stack=STACK, command=EXAMPLES[0]), run(job))

@@ -5,8 +5,12 @@ import unittest
 from pathlib import Path
 
 from bench import sheets
+from reckoning.__main__ import FILES
+from reckoning.formula import COMPARISONS
+from reckoning.limits import BILLION, MOST_HOURS, MOST_RATE, MOST_RATE_HOURS, RATE_HOURS, most_hours
 from reckoning.report import read_report
-from tests.jobs import MOST_LOAD, MOST_RATE, SIGNS, Sheet, labels_text, moves_text
+from reckoning.sheets import labels_text, moves_text
+from tests.jobs import Sheet
 from tests.program import run
 
 WIDEST = 2                  # billionths, at every load that is not refused
@@ -41,7 +45,7 @@ class Narrow(unittest.TestCase):
 
     def test_loads(self):
         rng = random.Random(6)
-        whole = [(1_000_000, hours) for hours in range(1, 65)]
+        whole = [(RATE_HOURS, hours) for hours in range(1, most_hours(RATE_HOURS) + 1)]
         self.narrow(load_job(*load) for load in whole + [random_load(rng) for _ in range(LOADS)])
 
 
@@ -55,20 +59,20 @@ def bench_jobs(folder):
     """Every job that the bench takes the time of."""
     for states, per_state in sheets.SIZES + sheets.SHAPES:
         sheets.write(folder, states, per_state)
-        moves, labels = ((folder / name).read_bytes() for name in ("moves.txt", "labels.txt"))
+        moves, labels = ((folder / name).read_bytes() for name in FILES[:2])
         for hours in sheets.HOURS:
             yield moves, labels, sheets.until(hours).encode() + b"\n"
 
 
 def until(rng, hours, first, second):
     """An until over two labels, which no state leaves undecided."""
-    return b"P %s %d U %d %s %s\n" % (rng.choice(SIGNS), rng.randint(0, 10**9), hours, first, second)
+    return b"P %s %d U %d %s %s\n" % (rng.choice(COMPARISONS), rng.randint(0, BILLION), hours, first, second)
 
 
 def made_job(rng):
     """A random sheet with an until over two of its labels."""
     sheet = Sheet(rng, 8)
-    return sheet.moves_text, sheet.labels_text, until(rng, sheet.hours(rng, 64), rng.choice(sheet.names), rng.choice(sheet.names))
+    return sheet.moves_text, sheet.labels_text, until(rng, sheet.hours(rng), rng.choice(sheet.names), rng.choice(sheet.names))
 
 
 def line_job(states):
@@ -79,8 +83,8 @@ def line_job(states):
 
 def ring_job(rng):
     """A ring with rates from 1 up to what the hours allow."""
-    states, hours = rng.randint(3, 20), rng.choice([1, 8, 720, 8_760])
-    most = min(MOST_RATE - 1, MOST_LOAD // hours)
+    states, hours = rng.randint(3, 20), rng.choice([1, 8, 720, MOST_HOURS])
+    most = min(MOST_RATE - 1, MOST_RATE_HOURS // hours)
     moves = sorted((s, (s + 1) % states, rng.choice([1, 7, most // 3 + 1, most])) for s in range(states))
     return moves_text(moves), ends_text(states), b"P < 500000000 U %d tt last\n" % hours
 
@@ -112,11 +116,6 @@ def row_of(rng, state, states, top):
         if left < 1:
             break
     return row
-
-
-def most_hours(rate):
-    """The most hours that a greatest exit rate allows."""
-    return min(8_760, MOST_LOAD // max(1, rate))
 
 
 def random_load(rng):

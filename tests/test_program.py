@@ -5,8 +5,10 @@ import subprocess
 import unittest
 
 from reckoning.judge import judge
+from reckoning.limits import BILLION, MOST_HOURS, MOST_LEVELS
 from reckoning.report import read_report, refused
-from tests import limits
+from reckoning.sheets import FAST_MOVES, FORMULA, FULL_MOVES, HOURS_8, LABELS, MOVES, NO_MOVES, REPORT, until
+from tests import edges
 from tests.agreement import refusal_number, tried
 from tests.jobs import damaged_job, random_job
 from tests.mutations import bent_job
@@ -17,8 +19,6 @@ DAMAGED = 3_000
 MADE = 300
 STACK = 1 << 20             # bytes that the program gets by with
 READING_STACK = 1 << 18     # and the readers
-HEAD = b"from,to,rate\n"
-SMALL = b"state,up,dead\n0,1,0\n1,0,1\n"
 
 
 class Program(unittest.TestCase):
@@ -41,7 +41,7 @@ class Program(unittest.TestCase):
         self.assertGreater(sum(judged), 0.9 * MADE)
 
     def test_limits(self):
-        for name, pair in limits.pairs().items():
+        for name, pair in edges.pairs().items():
             for job in pair:
                 with self.subTest(name):
                     number = refusal_number(job)
@@ -52,23 +52,22 @@ class Program(unittest.TestCase):
 
     def test_bench_values(self):
         """What document 01 says of jobs on its small sheet, and of the limits."""
-        def rows(formula, moves=b"0,1,500\n"):
-            return read_report(run((HEAD + moves, SMALL, formula)), 2)
-        self.assertEqual(run((HEAD + b"0,1,500\n", SMALL, b"P >= 1000000000 U 0 up dead\n")),
-                         b"state,lower,upper,depth,verdict\n0,0,0,40,no\n1,1000000000,1000000000,40,yes\n")
+        def rows(formula, moves=MOVES):
+            return read_report(run((moves, LABELS, formula)), 2)
+        self.assertEqual(run((MOVES, LABELS, FORMULA)), REPORT)
         self.assertEqual([(row.depth, row.verdict) for row in rows(b"tt\n")], [(0, "yes")] * 2)
         self.assertEqual([row.verdict for row in rows(b"& up ! dead\n")], ["yes", "no"])
-        first = rows(b"P <= 10000000 U 8 up dead\n")[0]
+        first = rows(HOURS_8)[0]
         self.assertLessEqual(first.lower, 3_992_010)
         self.assertGreaterEqual(first.upper, 3_992_011)
         self.assertLessEqual(first.upper - first.lower, 168)
         self.assertEqual((first.depth, first.verdict), (42, "yes"))
-        self.assertEqual({row.depth for row in rows(b"P < 1 U 1 up dead\n", b"0,1,64000000\n")}, {168})
-        self.assertEqual(run((HEAD + b"0,1,64000000\n", SMALL, b"P < 1 U 2 up dead\n")), refused(14))
-        still = rows(b"P < 1 U 8760 up dead\n", b"")
-        self.assertEqual([(row.lower, row.upper, row.depth) for row in still], [(0, 0, 40), (10**9, 10**9, 40)])
-        self.assertEqual(len(rows(b"! " * 15 + b"up\n")), 2)
-        self.assertEqual(run((HEAD + b"0,1,500\n", SMALL, b"! " * 16 + b"up\n")), refused(11))
+        self.assertEqual({row.depth for row in rows(until(1), FAST_MOVES)}, {168})
+        self.assertEqual(run((FULL_MOVES, LABELS, until(2))), refused(14))
+        still = rows(until(MOST_HOURS), NO_MOVES)
+        self.assertEqual([(row.lower, row.upper, row.depth) for row in still], [(0, 0, 40), (BILLION, BILLION, 40)])
+        self.assertEqual(len(rows(b"! " * (MOST_LEVELS - 1) + b"up\n")), 2)
+        self.assertEqual(run(edges.levels(MOST_LEVELS + 1)), refused(11))
         self.assertEqual([row.verdict for row in rows(b"P >= 0 U 1 up dead\n")], ["yes"] * 2)
 
     def test_stack_of_the_deepest_formulas(self):

@@ -3,7 +3,7 @@ from collections import namedtuple
 from decimal import ROUND_CEILING, Decimal
 from html import escape
 
-BILLION = 1_000_000_000
+from reckoning.limits import BILLION
 
 # The two ends, in billionths, and the verdict at so many hours.
 Point = namedtuple("Point", "hours lower upper verdict")

@@ -11,22 +11,22 @@ from reckoning import formula as f
 from reckoning.ends import Rules, has, verdicts
 from reckoning.judge import allowed_ends, judge
 from reckoning.refusal import refusal
+from reckoning.limits import BILLION
 from reckoning.report import ENDS_OF
-from reckoning.tests.sheets import LABELS, MOVES, random_chain, random_hours, row, texts
+from reckoning.sheets import LABELS, MOVES, REPORT_LINE
+from reckoning.tests.chains import random_chain, random_hours, row, texts
 from reckoning.verdict import WORDS, both, negate, of_ends
 
-TOP = b"state,lower,upper,depth,verdict\n"
 NEAR = b"P >= 3992000 U 8 up dead"      # the limit is about 3,992,010.656: yes or undecided
-ENDS = {"yes": b"1000000000,1000000000", "no": b"0,0", "undecided": b"0,1000000000"}
 
 
 def printed(rows):
-    return TOP + b"".join(b"%d,%d,%d,%d,%s\n" % (s, *row[:3], row[3].encode()) for s, row in enumerate(rows))
+    return REPORT_LINE + b"".join(b"%d,%d,%d,%d,%s\n" % (s, *row[:3], row[3].encode()) for s, row in enumerate(rows))
 
 
 def other(*words):
     """The print of an outermost node other than `P`."""
-    return TOP + b"".join(b"%d,%s,0,%s\n" % (s, ENDS[w], w.encode()) for s, w in enumerate(words))
+    return printed([(*ENDS_OF[word], 0, word) for word in words])
 
 
 def random_ends(random, ends):
@@ -65,8 +65,16 @@ def random_formula(random, chain, levels):
     hours = random_hours(random, chain)
     near = random.choice(Rules(chain).bounds(f.Until(hours, None, None), chain.marks[b"up"],
                                              chain.marks[b"dead"])).down
-    threshold = min(10 ** 9, max(0, near + random.randint(-60, 60)))
+    threshold = min(BILLION, max(0, near + random.randint(-60, 60)))
     return b" ".join([b"P", random.choice(f.COMPARISONS), b"%d U %d" % (threshold, hours), *parts])
+
+
+def random_jobs(random, count, levels, states=(2, 4)):
+    """Jobs of so few and so many states: the three texts, and the job as it was read."""
+    for _ in range(count):
+        chain = random_chain(random, states=random.randint(*states))
+        job = (*texts(chain), random_formula(random, chain, levels) + b"\n")
+        yield job, refusal(*job)
 
 
 class Nodes(unittest.TestCase):
@@ -89,9 +97,9 @@ class Nodes(unittest.TestCase):
     def test_an_inner_verdict_binds_the_outer_ends_together(self):
         """With the inner node undecided at 0 its upper end is 10^9 there, with it yes both are."""
         formula = b"P >= 1 U 0 tt " + NEAR + b"\n"
-        sure, open_ = (10 ** 9, 10 ** 9, 40, "yes"), (0, 10 ** 9, 40, "undecided")
+        sure, open_ = (BILLION, BILLION, 40, "yes"), (0, BILLION, 40, "undecided")
         for rows, good in (((sure, sure), True), ((open_, sure), True), ((sure, open_), False),
-                           (((5, 10 ** 9, 40, "yes"), sure), False)):
+                           (((5, BILLION, 40, "yes"), sure), False)):
             self.assertEqual(judge(MOVES, LABELS, formula, printed(rows)) == [], good)
 
     def test_no_backing_for_a_mixture(self):
@@ -99,9 +107,9 @@ class Nodes(unittest.TestCase):
         moves, labels = texts(row(3, 500))
         inner = b"P >= 3992000 U 8 up dead"     # state 0 no, state 1 yes or undecided, state 2 yes
         formula = b"P >= 500000000 U 8 up " + inner + b"\n"
-        state_2 = (10 ** 9, 10 ** 9, 42, "yes")
-        yes_at_1 = ((3_992_010, 3_992_011, 42, "no"), (10 ** 9, 10 ** 9, 42, "yes"), state_2)
-        open_at_1 = ((7_976, 3_992_011, 42, "no"), (3_992_010, 10 ** 9, 42, "undecided"), state_2)
+        state_2 = (BILLION, BILLION, 42, "yes")
+        yes_at_1 = ((3_992_010, 3_992_011, 42, "no"), (BILLION, BILLION, 42, "yes"), state_2)
+        open_at_1 = ((7_976, 3_992_011, 42, "no"), (3_992_010, BILLION, 42, "undecided"), state_2)
         self.assertEqual(judge(moves, labels, formula, printed(yes_at_1)), [])
         self.assertEqual(judge(moves, labels, formula, printed(open_at_1)), [])
         mixed = (yes_at_1[0], open_at_1[1], state_2)
@@ -117,7 +125,7 @@ class Nodes(unittest.TestCase):
             with self.assertRaises(backing.TooMany):
                 backing.operand_ways(Rules(job.chain), job.tree)
             two = b"P >= 1 U 0 tt " + NEAR + b"\n"
-            near = printed([(0, 0, 40, "no"), (10 ** 9, 10 ** 9, 40, "yes"), (10 ** 9, 10 ** 9, 40, "yes")])
+            near = printed([(0, 0, 40, "no"), (BILLION, BILLION, 40, "yes"), (BILLION, BILLION, 40, "yes")])
             self.assertEqual(judge(moves, labels, two, near), [])
             with self.assertRaises(backing.TooMany):
                 judge(moves, labels, two, printed([(0, 0, 40, "no")] * 3))
@@ -138,6 +146,14 @@ def plain_ways(rules, node):
     return vectors
 
 
+class Spelling(unittest.TestCase):
+    def test_reads_back(self):
+        random = Random(18)
+        for _ in range(100):
+            text = random_formula(random, random_chain(random, states=2), 5)
+            self.assertEqual(f.spelled(f.read_formula(text + b"\n")), text)
+
+
 class Ways(unittest.TestCase):
     def test_limit_of_pairs(self):
         """Two ways for each operand, three states: the four pairs are what is too many."""
@@ -149,10 +165,8 @@ class Ways(unittest.TestCase):
                 backing.operand_ways(Rules(job.chain), job.tree)
 
     def test_boxes_hold_every_way(self):
-        random, most = Random(16), 0
-        for _ in range(80):
-            chain = random_chain(random, states=2)
-            job = refusal(*texts(chain), random_formula(random, chain, 4) + b"\n")
+        most = 0
+        for _, job in random_jobs(Random(16), 80, levels=4, states=(2, 2)):
             rules = Rules(job.chain)
             found = backing.ways(rules, job.tree)
             most = max(most, len(found))
@@ -160,21 +174,10 @@ class Ways(unittest.TestCase):
         self.assertGreater(most, 2)
 
     def test_near_ways_are_ways(self):
-        random = Random(17)
-        for _ in range(80):
-            chain = random_chain(random, states=3)
-            job = refusal(*texts(chain), random_formula(random, chain, 3) + b"\n")
+        for _, job in random_jobs(Random(17), 80, levels=3, states=(3, 3)):
             rules = Rules(job.chain)
             found = backing.ways(rules, job.tree)
             self.assertTrue(all(backing.near(rules, job.tree, *off) in found for off in backing.OFFSETS))
-
-
-def random_jobs(random, count, levels):
-    """Jobs of 2 to 4 states: the three texts, and the job as it was read."""
-    for _ in range(count):
-        chain = random_chain(random, states=random.randint(2, 4))
-        job = (*texts(chain), random_formula(random, chain, levels) + b"\n")
-        yield job, refusal(*job)
 
 
 class RandomBackings(unittest.TestCase):

@@ -4,13 +4,14 @@ import unittest
 from fractions import Fraction
 from random import Random
 
-from reckoning.bracket import BILLION, Bounds, Run, bracket, reaching, settled_ceil
+from reckoning.bracket import Bounds, Run, bracket, reaching, settled_ceil
 from reckoning.chain import Chain, depth, until
-from reckoning.tests.sheets import random_chain, random_hours, row
+from reckoning.limits import BILLION, MOST_HOURS, MOST_RATE, MOST_STATES
+from reckoning.tests.chains import random_chain, random_untils, reading, row
 
 
 def of(chain, hours):
-    return bracket(chain, chain.marks[b"up"], chain.marks[b"dead"], hours)
+    return bracket(chain, *reading(chain), hours)
 
 
 class Bracket(unittest.TestCase):
@@ -21,14 +22,14 @@ class Bracket(unittest.TestCase):
         exact = [Bounds(0, 0), Bounds(0, 0), Bounds(BILLION, BILLION)]
         self.assertEqual(of(row(3, 500), 0), exact)
         still = Chain(3, {}, row(3, 1).marks)
-        self.assertEqual(of(still, 8_760), exact)
+        self.assertEqual(of(still, MOST_HOURS), exact)
 
     def test_further_than_depth(self):
         """60 states, rate 1, 1 hour: the quotient at D is 0 far away, later ones are above it."""
         bounds = of(row(60, 1), 1)
         self.assertEqual(bounds[0], Bounds(0, 1))
         self.assertEqual(bounds[58], Bounds(999, 1_000))
-        run = Run(row(60, 1), until(row(60, 1).marks[b"up"], row(60, 1).marks[b"dead"], 1))
+        run = Run(row(60, 1), until(*reading(row(60, 1)), 1))
         self.assertEqual(run.to(42).quotient(0), 0)
         self.assertGreater(run.to(59).quotient(0), 0)
 
@@ -41,13 +42,9 @@ class Bracket(unittest.TestCase):
 
     def test_random(self):
         """`down` is the floor at D; far deeper quotients lie from `up` - 1 to `up`."""
-        random = Random(7)
-        for _ in range(40):
-            chain = random_chain(random)
-            hours = random_hours(random, chain)
-            bounds = of(chain, hours)
-            run = Run(chain, until(chain.marks[b"up"], chain.marks[b"dead"], hours))
-            run.to(depth(chain.load(hours)))
+        for chain, phase in random_untils(Random(7), 40):
+            bounds = of(chain, phase.hours)
+            run = Run(chain, phase).to(depth(chain.load(phase.hours)))
             self.assertEqual([b.down for b in bounds],
                              [run.quotient(s) * BILLION // 1 for s in range(chain.states)])
             run.to(run.depth + 60)
@@ -56,12 +53,8 @@ class Bracket(unittest.TestCase):
                 self.assertTrue(value <= up and (up == 0 or up - 1 < value))
 
     def test_enclosure_holds_deeper_quotients(self):
-        random = Random(8)
-        for _ in range(20):
-            chain = random_chain(random)
-            hours = random_hours(random, chain)
-            run = Run(chain, until(chain.marks[b"up"], chain.marks[b"dead"], hours))
-            run.to(depth(chain.load(hours)))
+        for chain, phase in random_untils(Random(8), 20):
+            run = Run(chain, phase).to(depth(chain.load(phase.hours)))
             pairs = [run.enclosure(s) for s in range(chain.states)]
             run.to(run.depth + 25)
             for s, (low, high) in enumerate(pairs):
@@ -71,7 +64,7 @@ class Bracket(unittest.TestCase):
     def test_open_until_settled(self):
         """Load 1/2: weights halve from the first, so the enclosure holds early, but wide."""
         chain = row(2, 500_000)
-        run = Run(chain, until(chain.marks[b"up"], chain.marks[b"dead"], 1))
+        run = Run(chain, until(*reading(chain), 1))
         answers = [settled_ceil(run.to(last), 0) for last in range(1, 30)]
         self.assertIsNone(answers[4])
         self.assertEqual({*answers}, {None, 393_469_341})
@@ -79,16 +72,14 @@ class Bracket(unittest.TestCase):
 
     def test_tight(self):
         """From D on little is left: the bounds are at most 2 billionths apart."""
-        random = Random(9)
-        for _ in range(40):
-            chain = random_chain(random)
-            for down, up in of(chain, random_hours(random, chain)):
+        for chain, phase in random_untils(Random(9), 40):
+            for down, up in of(chain, phase.hours):
                 self.assertTrue(0 <= up - down <= 2)
 
     def test_deepest(self):
         """A full sheet at the greatest load stays feasible."""
-        n = 512
-        rates = {(s, (s + k) % n): 8_000_000 - 3 * s - k for s in range(n) for k in range(1, 9)}
+        n = MOST_STATES
+        rates = {(s, (s + k) % n): MOST_RATE // 8 - 3 * s - k for s in range(n) for k in range(1, 9)}
         marks = tuple(s == 0 for s in range(n))
         bounds = bracket(Chain(n, rates, {}), (True,) * n, marks, 1)
         self.assertEqual(bounds[0], Bounds(BILLION, BILLION))
@@ -102,7 +93,7 @@ class Average(unittest.TestCase):
         random = Random(10)
         for _ in range(20):
             chain = random_chain(random)
-            run = Run(chain, until(chain.marks[b"up"], chain.marks[b"dead"], 1))
+            run = Run(chain, until(*reading(chain), 1))
             for _ in range(30):
                 run.step()
                 for s in range(chain.states):

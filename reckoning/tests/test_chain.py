@@ -8,21 +8,18 @@ from random import Random
 
 from reckoning.bracket import Run
 from reckoning.chain import Chain, Phase, depth, quotients, step_values, until, weights
-from reckoning.tests.sheets import random_chain, random_hours, row
+from reckoning.limits import MOST_HOURS, MOST_RATE, MOST_RATE_HOURS, RATE_HOURS, SPARE_STEPS
+from reckoning.tests.chains import random_chain, random_hours, random_untils, reading, row
 
 
 def first_weights(load, count):
     return list(islice(weights(load), count))
 
 
-def reading(chain):
-    return chain.marks[b"up"], chain.marks[b"dead"]
-
-
 def float_until(chain, first, second, hours):
     """The until probability as a matrix power of e in floats: halve the time, add terms, square."""
     n, halvings = chain.states, 20
-    time = hours / 1e6 / 2 ** halvings
+    time = hours / RATE_HOURS / 2 ** halvings
     inner = [first[s] and not second[s] for s in range(n)]
     small = [[time * (chain.rates.get((a, b), 0) - (a == b) * chain.exits[a]) if inner[a] else 0.0
               for b in range(n)] for a in range(n)]
@@ -49,18 +46,19 @@ class Depth(unittest.TestCase):
     def test_q_is_the_whole_sheets(self):
         chain = Chain(3, {(0, 1): 5, (1, 0): 4, (1, 2): 7}, {})
         self.assertEqual((chain.exits, chain.q), ([5, 11, 0], 11))
-        self.assertEqual(chain.load(8), Fraction(88, 1_000_000))
+        self.assertEqual(chain.load(8), Fraction(88, RATE_HOURS))
 
     def test_weights(self):
         self.assertEqual(first_weights(Fraction(0), 3), [1, 0, 0])
         self.assertEqual(first_weights(Fraction(1, 2), 4),
                          [1, Fraction(1, 2), Fraction(1, 8), Fraction(1, 48)])
 
-    def test_weights_halve_from_forty_before_depth(self):
+    def test_weights_halve_in_the_spare_steps(self):
         random = Random(1)
-        loads = [Fraction(random.randint(0, 64_000_000), 1_000_000) for _ in range(20)] + [Fraction(64)]
+        loads = [Fraction(random.randint(0, MOST_RATE_HOURS), RATE_HOURS) for _ in range(20)]
+        loads.append(Fraction(MOST_RATE_HOURS, RATE_HOURS))
         for load in loads:
-            last = first_weights(load, depth(load) + 20)[depth(load) - 40:]
+            last = first_weights(load, depth(load) + 20)[depth(load) - SPARE_STEPS:]
             self.assertTrue(all(2 * after <= before for before, after in zip(last, last[1:])))
 
 
@@ -79,7 +77,7 @@ class StepValues(unittest.TestCase):
 
     def test_no_rate(self):
         chain = Chain(3, {}, {})
-        phase = until((True, True, False), (True, False, False), 8_760)
+        phase = until((True, True, False), (True, False, False), MOST_HOURS)
         self.assertEqual(list(islice(step_values(chain, phase), 3)), [[1, 0, 0]] * 3)
         self.assertEqual(quotients(chain, phase, 50), [1, 0, 0])
         self.assertEqual([Run(chain, phase).to(50).quotient(s) for s in range(3)], [1, 0, 0])
@@ -88,7 +86,7 @@ class StepValues(unittest.TestCase):
 class Quotients(unittest.TestCase):
     def test_row_by_a_closed_form(self):
         """With equal exits on the way, d moves away means: at least d moves in time."""
-        for count, rate, hours in ((2, 500, 8), (5, 300_000, 7), (6, 64_000_000, 1)):
+        for count, rate, hours in ((2, 500, 8), (5, 300_000, 7), (6, MOST_RATE, 1)):
             chain = row(count, rate)
             load = chain.load(hours)
             for last in (0, 3, depth(load), depth(load) + 9):
@@ -109,21 +107,14 @@ class Quotients(unittest.TestCase):
         self.assertAlmostEqual(float(got), 1 - 2 * exp(-2) + exp(-4), places=12)
 
     def test_random_by_a_matrix(self):
-        random = Random(2)
-        for _ in range(25):
-            chain = random_chain(random)
-            hours = random_hours(random, chain)
-            last = depth(chain.load(hours))
-            run = Run(chain, until(*reading(chain), hours)).to(last)
-            want = float_until(chain, *reading(chain), hours)
+        for chain, phase in random_untils(Random(2), 25):
+            run = Run(chain, phase).to(depth(chain.load(phase.hours)))
+            want = float_until(chain, *reading(chain), phase.hours)
             for s in range(chain.states):
                 self.assertAlmostEqual(float(run.quotient(s)), want[s], delta=1e-9)
 
     def test_fast_sums_are_the_papers(self):
-        random = Random(3)
-        for _ in range(25):
-            chain = random_chain(random)
-            phase = until(*reading(chain), random_hours(random, chain))
+        for chain, phase in random_untils(Random(3), 25):
             for last in (0, 1, 7, 45):
                 run = Run(chain, phase).to(last)
                 self.assertEqual([run.quotient(s) for s in range(chain.states)],
@@ -142,10 +133,8 @@ class Quotients(unittest.TestCase):
 
 class Rising(unittest.TestCase):
     def test_with_depth(self):
-        random = Random(5)
-        for _ in range(30):
-            chain = random_chain(random)
-            run = Run(chain, until(*reading(chain), random_hours(random, chain)))
+        for chain, phase in random_untils(Random(5), 30):
+            run = Run(chain, phase)
             before = [run.quotient(s) for s in range(chain.states)]
             for last in range(1, 60):
                 run.to(last)
@@ -155,11 +144,8 @@ class Rising(unittest.TestCase):
 
     def test_with_the_reading(self):
         random = Random(6)
-        for _ in range(30):
-            chain = random_chain(random)
-            hours = random_hours(random, chain)
-            less = reading(chain)
-            more = [tuple(mark or random.random() < 0.4 for mark in marks) for marks in less]
-            runs = [Run(chain, until(*each, hours)).to(40) for each in (less, more)]
+        for chain, phase in random_untils(random, 30):
+            more = [tuple(mark or random.random() < 0.4 for mark in marks) for marks in reading(chain)]
+            runs = [Run(chain, each).to(40) for each in (phase, until(*more, phase.hours))]
             for s in range(chain.states):
                 self.assertLessEqual(runs[0].quotient(s), runs[1].quotient(s))

@@ -4,11 +4,11 @@ import unittest
 from itertools import product
 from random import Random
 
-from reckoning.bracket import BILLION
 from reckoning.chain import Chain
 from reckoning.ends import CERTAIN, IMPOSSIBLE, Ends, Rules, has, verdicts
 from reckoning.formula import COMPARISONS, P, Tt, Until
-from reckoning.tests.sheets import random_chain, random_hours, row
+from reckoning.limits import BILLION, MOST_HOURS
+from reckoning.tests.chains import random_chain, random_hours, row
 from reckoning.verdict import NO, UNDECIDED, WORDS, YES, both, negate, of_ends
 
 
@@ -69,7 +69,7 @@ class StateEnds(unittest.TestCase):
 
     def test_load_0(self):
         """Each end is its reading's exact value."""
-        for chain, hours in ((row(2, 500), 0), (Chain(2, {}, {}), 8_760)):
+        for chain, hours in ((row(2, 500), 0), (Chain(2, {}, {}), MOST_HOURS)):
             ends = Rules(chain).ends(path(hours), (UNDECIDED, YES), (NO, UNDECIDED))
             self.assertEqual([e[:2] for e in ends], [((0, 0), (0, 0)), ((0, 0), (BILLION, BILLION))])
 

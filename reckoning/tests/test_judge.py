@@ -3,13 +3,11 @@
 import unittest
 
 from reckoning.judge import allowed_ends, judge
-from reckoning.tests.sheets import HEAD, LABELS, MOVES, NO_MOVES, labels_text, moves_text, row, texts
-
-TOP = b"state,lower,upper,depth,verdict\n"
-SMALL = b"P >= 1000000000 U 0 up dead\n"
-SMALL_PRINT = TOP + b"0,0,0,40,no\n1,1000000000,1000000000,40,yes\n"
-HOURS_8 = b"P <= 10000000 U 8 up dead\n"
-HOURS_8_PRINT = TOP + b"0,3992010,3992011,42,yes\n1,1000000000,1000000000,42,no\n"
+from reckoning.limits import MOST_HOURS, MOST_LEVELS
+from reckoning.refusal import lengths
+from reckoning.sheets import (FAST_MOVES, FORMULA, FULL_MOVES, HOURS_8, HOURS_8_REPORT, LABELS, MOVES, NO_MOVES, REPORT, REPORT_LINE, labels_text,
+                              moves_text, until)
+from reckoning.tests.chains import row, texts
 
 
 def faults(formula, printed, moves=MOVES, labels=LABELS):
@@ -27,29 +25,28 @@ class Judged(unittest.TestCase):
 class Bench(Judged):
     def test_printed_sheets(self):
         yes, no = b"1000000000,1000000000,%d,yes\n", b"0,0,%d,no\n"
-        self.allows(SMALL, SMALL_PRINT)
-        self.allows(HOURS_8, HOURS_8_PRINT)
-        self.allows(b"tt\n", TOP + b"0," + yes % 0 + b"1," + yes % 0)
-        self.allows(b"& up ! dead\n", TOP + b"0," + yes % 0 + b"1," + no % 0)
-        self.allows(b"! " * 15 + b"up\n", TOP + b"0," + no % 0 + b"1," + yes % 0)
-        self.allows(b"P < 5 U 8760 up dead\n",
-                    TOP + b"0,0,0,40,yes\n1,1000000000,1000000000,40,no\n", moves=NO_MOVES)
+        self.allows(FORMULA, REPORT)
+        self.allows(HOURS_8, HOURS_8_REPORT)
+        self.allows(b"tt\n", REPORT_LINE + b"0," + yes % 0 + b"1," + yes % 0)
+        self.allows(b"& up ! dead\n", REPORT_LINE + b"0," + yes % 0 + b"1," + no % 0)
+        self.allows(b"! " * (MOST_LEVELS - 1) + b"up\n", REPORT_LINE + b"0," + no % 0 + b"1," + yes % 0)
+        self.allows(until(MOST_HOURS),
+                    REPORT_LINE + b"0,0,0,40,yes\n1,1000000000,1000000000,40,no\n", moves=NO_MOVES)
 
     def test_refusals(self):
-        fast = HEAD + b"0,1,64000000\n"
-        self.allows(b"P >= 5 U 2 up dead\n", b"refused\n14\n", moves=fast)
-        self.allows(b"! " * 16 + b"up\n", b"refused\n11\n")
+        self.allows(b"P >= 5 U 2 up dead\n", b"refused\n14\n", moves=FULL_MOVES)
+        self.allows(b"! " * MOST_LEVELS + b"up\n", b"refused\n11\n")
         for printed in (b"refused\n14", b"refused 14\n", b"refused\n13\n", b"refused\n014\n", b"",
-                        b"refused\n14\n\n", b"Refused\n14\n", SMALL_PRINT):
-            self.refuses(b"P >= 5 U 2 up dead\n", printed, moves=fast)
-        self.refuses(SMALL, b"refused\n15\n")
+                        b"refused\n14\n\n", b"Refused\n14\n", REPORT):
+            self.refuses(b"P >= 5 U 2 up dead\n", printed, moves=FULL_MOVES)
+        self.refuses(FORMULA, b"refused\n15\n")
 
     def test_lent(self):
-        self.assertEqual(judge(MOVES, LABELS, SMALL, b"refused\n15\n", (2, 2, 1, 1, 532, 6)), [])
-        self.assertEqual(judge(MOVES, LABELS, SMALL, SMALL_PRINT, (2, 2, 2, 1, 532, 6)), [])
+        self.assertEqual(judge(MOVES, LABELS, FORMULA, b"refused\n15\n", lengths(2, 1, 3)._replace(verdicts=1)), [])
+        self.assertEqual(judge(MOVES, LABELS, FORMULA, REPORT, lengths(2, 1, 3)), [])
 
     def test_depth_168(self):
-        allowed = allowed_ends(HEAD + b"0,1,64000000\n", LABELS, b"P >= 5 U 1 up dead\n")
+        allowed = allowed_ends(FAST_MOVES, LABELS, b"P >= 5 U 1 up dead\n")
         self.assertEqual((allowed.depth, allowed.width), (168, 672))
 
     def test_at_least_0(self):
@@ -59,37 +56,37 @@ class Bench(Judged):
     def test_freedom(self):
         """Ends a little off are allowed, to the last billionth."""
         for ends in (b"3991843,3992011", b"3992010,3992178", b"3992000,3992100", b"3991900,3992068"):
-            self.allows(HOURS_8, HOURS_8_PRINT.replace(b"3992010,3992011", ends))
+            self.allows(HOURS_8, HOURS_8_REPORT.replace(b"3992010,3992011", ends))
 
 
 class Layout(Judged):
     def test_small_sheet_altered(self):
         last = b"1,1000000000,1000000000,40,yes\n"
         for printed in (
-                SMALL_PRINT[:-1], SMALL_PRINT + b"\n", SMALL_PRINT.replace(b"\n", b"\r\n"),
-                TOP + last + b"0,0,0,40,no\n", TOP + b"0,0,0,40,no\n", SMALL_PRINT + b"2,0,0,40,no\n",
-                SMALL_PRINT[len(TOP):], b"state,lower,upper,depth\n" + SMALL_PRINT[len(TOP):],
-                SMALL_PRINT.replace(b"0,0,0,", b"0,00,0,"), SMALL_PRINT.replace(b"0,0,0,", b"00,0,0,"),
-                SMALL_PRINT.replace(b"40,no", b"040,no"), SMALL_PRINT.replace(b",", b", "),
-                SMALL_PRINT.replace(b"no", b"No"), SMALL_PRINT.replace(b"40,no", b"40,0"),
-                SMALL_PRINT.replace(b"0,0,0,40,no", b"0,0,0,no"), b"", b"\n"):
+                REPORT[:-1], REPORT + b"\n", REPORT.replace(b"\n", b"\r\n"),
+                REPORT_LINE + last + b"0,0,0,40,no\n", REPORT_LINE + b"0,0,0,40,no\n", REPORT + b"2,0,0,40,no\n",
+                REPORT[len(REPORT_LINE):], b"state,lower,upper,depth\n" + REPORT[len(REPORT_LINE):],
+                REPORT.replace(b"0,0,0,", b"0,00,0,"), REPORT.replace(b"0,0,0,", b"00,0,0,"),
+                REPORT.replace(b"40,no", b"040,no"), REPORT.replace(b",", b", "),
+                REPORT.replace(b"no", b"No"), REPORT.replace(b"40,no", b"40,0"),
+                REPORT.replace(b"0,0,0,40,no", b"0,0,0,no"), b"", b"\n"):
             with self.subTest(printed=printed):
-                self.refuses(SMALL, printed)
+                self.refuses(FORMULA, printed)
 
     def test_state_numbers(self):
         line = b"1000000000,1000000000,0,yes\n"
-        self.allows(b"tt\n", TOP + b"0," + line + b"1," + line)
+        self.allows(b"tt\n", REPORT_LINE + b"0," + line + b"1," + line)
         for first, second in ((b"1,", b"0,"), (b"0,", b"0,"), (b"1,", b"2,")):
-            self.refuses(b"tt\n", TOP + first + line + second + line)
+            self.refuses(b"tt\n", REPORT_LINE + first + line + second + line)
 
     def test_depth(self):
-        self.refuses(SMALL, SMALL_PRINT.replace(b"40", b"42"))
-        self.refuses(HOURS_8, HOURS_8_PRINT.replace(b",42,yes", b",41,yes"))
-        self.refuses(b"tt\n", TOP + b"0,1000000000,1000000000,40,yes\n1,1000000000,1000000000,40,yes\n")
+        self.refuses(FORMULA, REPORT.replace(b"40", b"42"))
+        self.refuses(HOURS_8, HOURS_8_REPORT.replace(b",42,yes", b",41,yes"))
+        self.refuses(b"tt\n", REPORT_LINE + b"0,1000000000,1000000000,40,yes\n1,1000000000,1000000000,40,yes\n")
 
 
 class Content(Judged):
-    def altered(self, old, new, formula=HOURS_8, printed=HOURS_8_PRINT, **sheet):
+    def altered(self, old, new, formula=HOURS_8, printed=HOURS_8_REPORT, **sheet):
         self.allows(formula, printed, **sheet)
         self.assertIn(old, printed)
         self.refuses(formula, printed.replace(old, new, 1), **sheet)
@@ -114,14 +111,13 @@ class Content(Judged):
 
     def test_point_ends_missing(self):
         self.altered(b"1000000000,1000000000,42", b"999999999,1000000000,42")
-        marks = {b"up": (True, False, False), b"dead": (False, True, False)}
-        sheet = dict(moves=moves_text({(0, 1): 500}), labels=labels_text(marks))
-        printed = HOURS_8_PRINT + b"2,0,0,42,yes\n"
+        sheet = dict(moves=MOVES, labels=labels_text([b"up", b"dead"], [(1, 0), (0, 1), (0, 0)]))
+        printed = HOURS_8_REPORT + b"2,0,0,42,yes\n"
         self.altered(b"2,0,0,", b"2,0,1,", printed=printed, **sheet)
 
     def test_only_the_second_holds(self):
         labels = LABELS.replace(b"0,1,0", b"0,0,1")
-        printed = TOP + b"0,1000000000,1000000000,42,no\n1,1000000000,1000000000,42,no\n"
+        printed = REPORT_LINE + b"0,1000000000,1000000000,42,no\n1,1000000000,1000000000,42,no\n"
         self.altered(b"0,1000000000,1000000000,42,no", b"0,0,0,42,yes", printed=printed, labels=labels)
 
     def test_rounded_to_nearest(self):
@@ -129,16 +125,15 @@ class Content(Judged):
         self.altered(b"3992010,3992011", b"3992011,3992011")
 
     def test_load_0_is_exact(self):
-        self.altered(b"0,0,0,40", b"0,0,1,40", formula=SMALL, printed=SMALL_PRINT)
+        self.altered(b"0,0,0,40", b"0,0,1,40", formula=FORMULA, printed=REPORT)
 
     def test_staying_put_left_out(self):
         """State 0 moves half as often as q says: e^-1/2, not e^-1, stays."""
-        chain_moves = moves_text({(0, 1): 500_000, (1, 0): 1_000_000})
-        job = dict(moves=chain_moves)
+        moves = moves_text([(0, 1, 500_000), (1, 0, 1_000_000)])
         formula = b"P >= 500000000 U 1 up dead\n"
-        right = TOP + b"0,393469340,393469341,42,no\n1,1000000000,1000000000,42,yes\n"
+        right = REPORT_LINE + b"0,393469340,393469341,42,no\n1,1000000000,1000000000,42,yes\n"
         self.altered(b"393469340,393469341,42,no", b"632120558,632120559,42,yes",
-                     formula=formula, printed=right, **job)
+                     formula=formula, printed=right, moves=moves)
 
 
 class FurtherThanDepth(Judged):
@@ -146,7 +141,7 @@ class FurtherThanDepth(Judged):
 
     def printed(self, far_upper, far_verdict):
         far = b"".join(b"%d,0,%d,42,%s\n" % (s, far_upper, far_verdict) for s in range(58))
-        return TOP + far + b"58,999,1000,42,yes\n59,1000000000,1000000000,42,yes\n"
+        return REPORT_LINE + far + b"58,999,1000,42,yes\n59,1000000000,1000000000,42,yes\n"
 
     def test_upper_end(self):
         moves, labels = texts(row(60, 1))
@@ -161,8 +156,8 @@ class FurtherThanDepth(Judged):
         point, unknown = b"%d,1000000000,1000000000,0,%s\n", b"%d,0,1000000000,0,undecided\n"
         far = range(58)
         tail = b"58,0,0,0,no\n59,0,0,0,no\n"
-        right = TOP + b"".join(unknown % s for s in far) + tail
-        wrong = TOP + b"".join(point % (s, b"yes") for s in far) + tail
+        right = REPORT_LINE + b"".join(unknown % s for s in far) + tail
+        wrong = REPORT_LINE + b"".join(point % (s, b"yes") for s in far) + tail
         formula = b"! P > 0 U 1 up dead\n"
         self.allows(formula, right, moves=moves, labels=labels)
         self.refuses(formula, wrong, moves=moves, labels=labels)
@@ -174,5 +169,5 @@ class FurtherThanDepth(Judged):
         tail = b"58,1000000000,1000000000,40,yes\n59,1000000000,1000000000,40,yes\n"
         right = b"".join(b"%d,0,1000000000,40,undecided\n" % s for s in range(58))
         wrong = b"".join(b"%d,0,0,40,no\n" % s for s in range(58))
-        self.allows(formula, TOP + right + tail, moves=moves, labels=labels)
-        self.refuses(formula, TOP + wrong + tail, moves=moves, labels=labels)
+        self.allows(formula, REPORT_LINE + right + tail, moves=moves, labels=labels)
+        self.refuses(formula, REPORT_LINE + wrong + tail, moves=moves, labels=labels)

@@ -6,12 +6,10 @@ import tempfile
 import unittest
 from pathlib import Path
 
-from reckoning.tests.sheets import LABELS, MOVES
+from reckoning.sheets import HOURS_8, HOURS_8_REPORT, LABELS, MOVES
 
 ROOT = Path(__file__).resolve().parents[2]
-FORMULA = b"P <= 10000000 U 8 up dead\n"
-PRINT = (b"state,lower,upper,depth,verdict\n0,3992010,3992011,42,yes\n"
-         b"1,1000000000,1000000000,42,no\n")
+SHEET = dict(moves=MOVES, labels=LABELS, formula=HOURS_8)
 
 
 class Commands(unittest.TestCase):
@@ -24,19 +22,17 @@ class Commands(unittest.TestCase):
         return done.returncode, done.stdout.decode()
 
     def test_judge(self):
-        sheet = dict(moves=MOVES, labels=LABELS, formula=FORMULA)
-        self.assertEqual(self.run_with("judge", PRINT, **sheet), (0, "allowed\n"))
-        status, told = self.run_with("judge", PRINT.replace(b"yes", b"no"), **sheet)
+        self.assertEqual(self.run_with("judge", HOURS_8_REPORT, **SHEET), (0, "allowed\n"))
+        status, told = self.run_with("judge", HOURS_8_REPORT.replace(b"yes", b"no"), **SHEET)
         self.assertEqual((status, told), (1, "state 0: verdict no does not follow from the ends\n"))
 
     def test_refusal(self):
-        sheet = dict(moves=MOVES, labels=LABELS, formula=FORMULA)
-        self.assertEqual(self.run_with("refusal", **sheet), (0, "accepted\n"))
+        self.assertEqual(self.run_with("refusal", **SHEET), (0, "accepted\n"))
         self.assertEqual(self.run_with("refusal", moves=MOVES, labels=LABELS), (0, "1\n"))
         self.assertEqual(self.run_with("judge", b"refused\n1\n"), (0, "allowed\n"))
 
     def test_ends(self):
-        status, told = self.run_with("ends", moves=MOVES, labels=LABELS, formula=FORMULA)
+        status, told = self.run_with("ends", **SHEET)
         self.assertEqual((status, told.splitlines()), (0, [
             "depth 42, width 168",
             "0: lower 3991843 to 3992010, upper 3992011 to 3992178, yes",

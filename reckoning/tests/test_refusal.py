@@ -2,11 +2,14 @@
 
 import unittest
 
-from reckoning.refusal import TESTS, Lent, needed, refusal
-from reckoning.tests.sheets import HEAD, LABELS, MOVES, NO_MOVES, labels_text, moves_text
+from reckoning.limits import (BILLION, FORMULA_BYTES, MOST_HOURS, MOST_LETTERS, MOST_LEVELS, MOST_MOVES, MOST_NAMES, MOST_NODES, MOST_RATE,
+                              MOST_RATE_HOURS, MOST_STATES, SHEET_BYTES)
+from reckoning.refusal import TESTS, Lent, lengths, needed, refusal
+from reckoning.sheets import FULL_MOVES, LABELS, MOVES, MOVES_LINE, NO_MOVES, labels_text, moves_text, until
 
 FORMULA = b"P >= 5 U 8 up dead\n"
-TOP = 64_000_000
+OVER_HOURS = until(MOST_HOURS + 1)
+OVER_THRESHOLD = until(1, threshold=BILLION + 1)
 
 
 def answer(moves=MOVES, labels=LABELS, formula=FORMULA, lent=None):
@@ -40,40 +43,40 @@ class Refusals(unittest.TestCase):
         self.check([
             (0, {}),
             (1, dict(formula=b"")), (1, dict(moves=b"")), (1, dict(labels=b"")),
-            (2, dict(moves=HEAD + b"0,1\n")),
+            (2, dict(moves=MOVES_LINE + b"0,1\n")),
             (3, dict(labels=b"state,up,up\n0,1,0\n1,0,1\n")),
             (4, dict(labels=one + b"1,0\n", formula=b"up\n", moves=NO_MOVES)),
-            (5, dict(moves=HEAD + b"0,1,5\n" * 4_097)),
-            (6, dict(moves=HEAD + b"0,9,5\n")), (6, dict(moves=HEAD + b"2,0,5\n")),
-            (7, dict(moves=HEAD + b"0,0,5\n")),
-            (8, dict(moves=HEAD + b"1,0,5\n0,1,5\n")),
-            (8, dict(moves=HEAD + b"0,1,5\n0,1,5\n")),
-            (9, dict(moves=HEAD + b"0,1,0\n")),
-            (9, dict(moves=HEAD + b"0,1,64000001\n")),
+            (5, dict(moves=MOVES_LINE + b"0,1,5\n" * (MOST_MOVES + 1))),
+            (6, dict(moves=MOVES_LINE + b"0,9,5\n")), (6, dict(moves=MOVES_LINE + b"2,0,5\n")),
+            (7, dict(moves=MOVES_LINE + b"0,0,5\n")),
+            (8, dict(moves=MOVES_LINE + b"1,0,5\n0,1,5\n")),
+            (8, dict(moves=MOVES_LINE + b"0,1,5\n0,1,5\n")),
+            (9, dict(moves=MOVES_LINE + b"0,1,0\n")),
+            (9, dict(moves=moves_text([(0, 1, MOST_RATE + 1)]))),
             (10, dict(formula=b"& up\n")),
-            (11, dict(formula=b"! " * 16 + b"up\n")),
+            (11, dict(formula=b"! " * MOST_LEVELS + b"up\n")),
             (12, dict(formula=b"gas\n")),
-            (13, dict(formula=b"P < 1 U 8761 up dead\n")),
-            (13, dict(formula=b"P < 1000000001 U 1 up dead\n")),
-            (14, dict(moves=HEAD + b"0,1,64000000\n", formula=b"P < 1 U 2 up dead\n")),
-            (15, dict(lent=(2, 2, 1, 1, 532, 6))),
+            (13, dict(formula=OVER_HOURS)),
+            (13, dict(formula=OVER_THRESHOLD)),
+            (14, dict(moves=FULL_MOVES, formula=b"P < 1 U 2 up dead\n")),
+            (15, dict(lent=lengths(2, 1, 3)._replace(verdicts=1))),
         ])
 
     def test_bytes(self):
-        long_moves = HEAD + b"0,1,1\n" * 10_240
-        exact = states_text(2) + b"9" * (61_440 - len(states_text(2)) - 1) + b"\n"
+        long_moves = MOVES_LINE + b"0,1,1\n" * 10_240
+        exact = states_text(2) + b"9" * (SHEET_BYTES - len(states_text(2)) - 1) + b"\n"
         self.check([
-            (1, dict(formula=b"a" * 512 + b"\n")), (10, dict(formula=b"a" * 511 + b"\n")),
-            (1, dict(moves=long_moves[:61_440] + b"\n")),
+            (1, dict(formula=b"a" * FORMULA_BYTES + b"\n")), (10, dict(formula=b"a" * (FORMULA_BYTES - 1) + b"\n")),
+            (1, dict(moves=long_moves[:SHEET_BYTES] + b"\n")),
             (2, dict(labels=exact)), (1, dict(labels=exact + b"\n")),
             (3, dict(moves=b"\n")), (3, dict(labels=b"\n")), (10, dict(formula=b"\n")),
             (1, dict(moves=b"from,to,rate", labels=b"")),
         ])
 
     def test_numbers_in_sheets(self):
-        cases = [(2, dict(moves=HEAD + b"0,1," + rate + b"\n")) for rate in
+        cases = [(2, dict(moves=MOVES_LINE + b"0,1," + rate + b"\n")) for rate in
                  (b"05", b"1000000000", b"", b"+5", b"-5", b" 5", b"5 ", b"5\r", b"x", b"00", b"5,")]
-        cases += [(9, dict(moves=HEAD + b"0,1,999999999\n")),
+        cases += [(9, dict(moves=MOVES_LINE + b"0,1,999999999\n")),
                   (2, dict(labels=b"state,up,dead\n00,1,0\n1,0,1\n")),
                   (2, dict(labels=b"state,up,dead\n0,1,0\n01,0,1\n")),
                   (2, dict(labels=b"state,up,dead\n0,01,0\n1,0,1\n")),
@@ -84,7 +87,7 @@ class Refusals(unittest.TestCase):
     def test_lines(self):
         self.check([
             (2, dict(moves=MOVES[:-1])), (2, dict(labels=LABELS[:-1])),
-            (2, dict(moves=HEAD[:-1])), (2, dict(moves=b"nonsense")), (2, dict(labels=b"state,up")),
+            (2, dict(moves=MOVES_LINE[:-1])), (2, dict(moves=b"nonsense")), (2, dict(labels=b"state,up")),
             (2, dict(moves=MOVES + b"\n")), (2, dict(labels=LABELS + b"\n")),
             (2, dict(moves=b"\nfrom,to,rate\n")),
             (3, dict(labels=b"\n0\n1\n")), (2, dict(labels=b"state,\n0\n")),
@@ -94,33 +97,28 @@ class Refusals(unittest.TestCase):
         ])
 
     def test_names(self):
-        def head(names, marks):
-            return dict(labels=b"state," + names + b"\n" + b"0," + marks + b"\n",
-                        formula=b"tt\n", moves=NO_MOVES)
-        sixteen = b",".join(b"a" * k for k in range(1, 13)) + b",b,c,d,e"
+        def head(*names):
+            return dict(labels=labels_text(names, [[1] * len(names)]), formula=b"tt\n", moves=NO_MOVES)
+        names = [b"a" * k for k in range(1, MOST_LETTERS + 1)] + [bytes([b]) for b in b"bcdefghijklmnop"]
         self.check([
-            (0, head(sixteen, b",".join([b"1"] * 16))),
-            (3, head(sixteen + b",f", b",".join([b"1"] * 17))),
-            (0, head(b"abcdefghijkl", b"1")), (3, head(b"abcdefghijklm", b"1")),
-            (3, head(b"tt", b"1")), (3, head(b"state", b"1")), (3, head(b"Up", b"1")),
-            (3, head(b"", b"1")), (3, head(b" up", b"1")), (0, head(b"ttt", b"1")),
+            (0, head(*names[:MOST_NAMES])), (3, head(*names[:MOST_NAMES + 1])),
+            (0, head(b"l" * MOST_LETTERS)), (3, head(b"l" * (MOST_LETTERS + 1))),
+            (3, head(b"tt")), (3, head(b"state")), (3, head(b"Up")), (3, head(b"")), (3, head(b" up")), (0, head(b"ttt")),
             (0, dict(labels=states_text(2), formula=b"tt\n")),
         ])
 
     def test_states_and_moves(self):
         def sheet(states, moves=NO_MOVES):
             return dict(labels=states_text(states), moves=moves, formula=b"tt\n")
-        full = {(a, b): 1 for a in range(91) for b in range(91) if a != b}
-        first = dict(sorted(full.items())[:4_096])
-        more = dict(sorted(full.items())[:4_097])
+        full, half = [(a, b, 1) for a in range(91) for b in range(91) if a != b], MOST_RATE // 2
         self.check([
-            (0, sheet(1)), (0, sheet(512)), (4, sheet(513)), (4, sheet(0)),
+            (0, sheet(1)), (0, sheet(MOST_STATES)), (4, sheet(MOST_STATES + 1)), (4, sheet(0)),
             (4, dict(labels=b"state\n0\n0\n")), (4, dict(labels=b"state\n0\n2\n")),
-            (0, sheet(91, moves_text(first))), (5, sheet(91, moves_text(more))),
-            (8, sheet(3, HEAD + b"0,2,5\n0,1,5\n")),
-            (0, sheet(3, HEAD + b"0,1,32000000\n0,2,32000000\n1,0,64000000\n")),
-            (9, sheet(3, HEAD + b"0,1,32000000\n0,2,32000001\n")),
-            (9, sheet(6, HEAD + b"".join(b"0,%d,999999999\n" % s for s in range(1, 6)))),
+            (0, sheet(91, moves_text(full[:MOST_MOVES]))), (5, sheet(91, moves_text(full[:MOST_MOVES + 1]))),
+            (8, sheet(3, MOVES_LINE + b"0,2,5\n0,1,5\n")),
+            (0, sheet(3, moves_text([(0, 1, half), (0, 2, half), (1, 0, MOST_RATE)]))),
+            (9, sheet(3, moves_text([(0, 1, half), (0, 2, half + 1)]))),
+            (9, sheet(6, MOVES_LINE + b"".join(b"0,%d,999999999\n" % s for s in range(1, 6)))),
         ])
 
     def test_grammar(self):
@@ -135,41 +133,42 @@ class Refusals(unittest.TestCase):
         self.check([(12, dict(formula=b"state\n")), (12, dict(formula=b"ttt\n")),
                     (13, dict(formula=b"P < 9999999999 U 1 up dead\n")),
                     (13, dict(formula=b"P < 1 U 9999999999 up dead\n")),
-                    (0, dict(formula=b"P < 1000000000 U 8760 up dead\n"))])
+                    (0, dict(formula=until(MOST_HOURS, threshold=BILLION)))])
 
     def test_nodes_and_levels(self):
         over = b"P < 1 U 1 up dead\n"
         self.check([
-            (0, dict(formula=b"! " * 15 + b"up\n")), (0, dict(formula=b"! " * 14 + over)),
-            (11, dict(formula=b"! " * 15 + over)), (11, dict(formula=b"! " * 250 + b"up\n")),
+            (0, dict(formula=b"! " * (MOST_LEVELS - 1) + b"up\n")), (0, dict(formula=b"! " * (MOST_LEVELS - 2) + over)),
+            (11, dict(formula=b"! " * (MOST_LEVELS - 1) + over)), (11, dict(formula=b"! " * 250 + b"up\n")),
             (10, dict(formula=b"! " * 255 + b"\n")), (11, dict(formula=b"! " * 255 + b"a\n")),
-            (0, dict(formula=b"! " + and_tree(32) + b"\n")), (11, dict(formula=and_tree(33) + b"\n")),
-            (10, dict(formula=b"! " * 17 + b"&\n")), (10, dict(formula=and_tree(40) + b" up\n")),
-            (11, dict(formula=b"! " * 16 + b"gas\n")),
+            (0, dict(formula=b"! " + and_tree(MOST_NODES // 2) + b"\n")), (11, dict(formula=and_tree(MOST_NODES // 2 + 1) + b"\n")),
+            (10, dict(formula=b"! " * (MOST_LEVELS + 1) + b"&\n")), (10, dict(formula=and_tree(MOST_NODES // 2 + 8) + b" up\n")),
+            (11, dict(formula=b"! " * MOST_LEVELS + b"gas\n")),
         ])
 
     def test_each_test_is_put_to_the_whole(self):
         two = states_text(2)
         self.check([
-            (2, dict(moves=HEAD + b"0,1,5\n" * 4_097 + b"0,1\n")),
+            (2, dict(moves=MOVES_LINE + b"0,1,5\n" * (MOST_MOVES + 1) + b"0,1\n")),
             (2, dict(labels=states_text(600) + b"x\n")),
-            (6, dict(moves=HEAD + b"1,1,0\n0,1,0\n0,2,5\n")),
-            (7, dict(moves=HEAD + b"1,0,0\n0,0,0\n")), (8, dict(moves=HEAD + b"1,0,0\n0,1,5\n")),
+            (6, dict(moves=MOVES_LINE + b"1,1,0\n0,1,0\n0,2,5\n")),
+            (7, dict(moves=MOVES_LINE + b"1,0,0\n0,0,0\n")), (8, dict(moves=MOVES_LINE + b"1,0,0\n0,1,5\n")),
             (3, dict(labels=b"names\n" + b"0\n" * 20_000)), (4, dict(labels=b"state\n" + b"0\n" * 20_000)),
             (2, dict(labels=b"state\n" + b"0\n" * 20_000 + b"x\n")),
-            (1, dict(moves=b"x", formula=b"")), (2, dict(moves=HEAD + b"0\n", formula=b"&\n")),
-            (9, dict(moves=HEAD + b"0,1,0\n", formula=b"&\n")), (3, dict(moves=b"\n", labels=two)),
-            (10, dict(labels=two, formula=b"& gas\n")), (12, dict(formula=b"P < 1 U 8761 gas dead\n")),
-            (13, dict(moves=HEAD + b"0,1,64000000\n", formula=b"& P < 1 U 2 up up P < 1 U 8761 up up\n")),
-            (14, dict(moves=HEAD + b"0,1,64000000\n", formula=b"& up P < 1 U 2 up up\n", lent=(0,) * 6)),
+            (1, dict(moves=b"x", formula=b"")), (2, dict(moves=MOVES_LINE + b"0\n", formula=b"&\n")),
+            (9, dict(moves=MOVES_LINE + b"0,1,0\n", formula=b"&\n")), (3, dict(moves=b"\n", labels=two)),
+            (10, dict(labels=two, formula=b"& gas\n")), (12, dict(formula=OVER_HOURS.replace(b"up", b"gas"))),
+            (13, dict(moves=FULL_MOVES, formula=b"& P < 1 U 2 up up " + OVER_HOURS)),
+            (14, dict(moves=FULL_MOVES, formula=b"& up P < 1 U 2 up up\n", lent=(0,) * 6)),
         ])
 
     def test_load(self):
         def job(q, hours):
-            return dict(moves=HEAD + b"0,1,%d\n" % q, formula=b"P < 1 U %d up dead\n" % hours)
-        self.check([(0, job(TOP, 1)), (14, job(TOP, 2)), (0, job(TOP, 0)), (0, job(8_000_000, 8)),
-                    (14, job(8_000_001, 8)), (0, job(7_305, 8_760)), (14, job(7_306, 8_760)),
-                    (14, job(4_923_077, 13))])      # 64,000,001
+            return dict(moves=moves_text([(0, 1, q)]), formula=until(hours))
+        most = MOST_RATE_HOURS
+        self.check([(0, job(MOST_RATE, 1)), (14, job(MOST_RATE, 2)), (0, job(MOST_RATE, 0)), (0, job(most // 8, 8)),
+                    (14, job(most // 8 + 1, 8)), (0, job(most // MOST_HOURS, MOST_HOURS)), (14, job(most // MOST_HOURS + 1, MOST_HOURS)),
+                    (14, job(most // 13 + 1, 13))])         # by one
 
     def test_lent(self):
         need = Lent(2, 2, 2, 1, 532, 6)
@@ -189,6 +188,6 @@ class Reading(unittest.TestCase):
         self.assertEqual(job.chain.rates, {(0, 1): 500})
         self.assertEqual(job.chain.marks, {b"up": (True, False), b"dead": (False, True)})
 
-    def test_writers_of_the_tests(self):
-        self.assertEqual(labels_text({b"up": (1, 0), b"dead": (0, 1)}), LABELS)
-        self.assertEqual(moves_text({(0, 1): 500}), MOVES)
+    def test_the_small_sheet_is_the_papers(self):
+        self.assertEqual(LABELS, b"state,up,dead\n0,1,0\n1,0,1\n")
+        self.assertEqual(MOVES, b"from,to,rate\n0,1,500\n")

@@ -1,26 +1,13 @@
-"""Agreement with the shared vectors, where that folder is beside the repository."""
+"""Agreement with the vectors, where they are there."""
 
-import json
 import unittest
-from pathlib import Path
 
 from reckoning.judge import allowed_ends
 from reckoning.refusal import refusal
-
-ROOT = Path(__file__).resolve().parents[2]
-VECTORS = ROOT.parent / "shared" / "vectors"
+from reckoning.tests.vectors import MISSING, cases, texts_of
 
 
-def cases(name):
-    with open(VECTORS / name, encoding="utf-8") as file:
-        return [json.loads(line) for line in file]
-
-
-def texts_of(case):
-    return [case[name].encode("latin-1") for name in ("moves", "labels", "formula")]
-
-
-@unittest.skipUnless(VECTORS.is_dir(), "no folder ../shared/vectors beside the repository")
+@unittest.skipIf(MISSING, MISSING)
 class Vectors(unittest.TestCase):
     def test_refusals(self):
         for case in cases("refusals.jsonl"):

@@ -1,25 +1,27 @@
 -- The ends and verdicts that the checker finds, as functions of the chain and the formula alone; and that they are a backing. So every
 -- job whose loads are in range has a report: the rules nowhere contradict each other. Assumes nothing.
 use mathlib.Core.Path.{_≡_, refl, ap}
-use mathlib.Core.Bool.{Bool, true, false, cond, _&&_, and-eq-true-iff}
+use mathlib.Core.Bool.{Bool, true, false, cond, and-eq-true-iff}
 use Prim.Native.Nat.{ℕ, _*_, _-_, _/_, _≤_, _<_}
 use native.Mathlib.Omega.{arith}
 use lib.Dec.{leb, eqb}
 use borrow.Author.Tests.{leb-true, eqb-false, not-false}
 use Rattle.csl.specs.Limits.{billion, rateHours, mostRateHours}
-use Rattle.csl.specs.Formula.{Comparison, Formula, always, label, negated, both, until, untilsPass}
+use Rattle.csl.specs.Formula.{Comparison, Formula, always, label, negated, both, chance, Path, until, PathOf, untilOf, pathOf}
+use Rattle.csl.specs.Formula.{phasesPass, pathsPass, pathsPassIn}
 use Rattle.csl.specs.Chain.{Chain, topRate, load, depth}
-use Rattle.csl.specs.Phase.{Phase, untilPhase}
+use Rattle.csl.specs.Phase.{Phase}
 use Rattle.csl.specs.Verdicts.{Verdict, Yes, marked, negation, conjunction, judged, least, most}
+use Rattle.csl.specs.Until.{untilPhase}
+use Rattle.csl.specs.Path.{FollowsAt}
 use Rattle.csl.specs.Ends.{EndsAt}
-use Rattle.csl.specs.Backing.{Backed, AtEach, UntilBacked}
+use Rattle.csl.specs.Backing.{Backed, AtEach, PathBacked, ChanceKeeps}
 use Rattle.csl.specs.Report.{Reported, lowerOf as plainLower, upperOf as plainUpper}
-use Rattle.csl.specs.Refusal.{Job, jobChain, jobFormula, highLoad}
-use Rattle.csl.specs.Laws.Backing.{backed-not, backed-both}
+use Rattle.csl.specs.Refusal.{inLoad}
 use Rattle.bounds.specs.Ends.{end-same}
 use Rattle.bounds.specs.Upper.{left-same}
 use Rattle.bounds.specs.Width.{mostDepth}
-use Rattle.bounds.specs.Values.{Rounds, pointed}
+use Rattle.bounds.specs.StepValues.{Rounds, pointed}
 use Rattle.bounds.specs.Rounded.{rounded, rounded-rounds, rounds-same}
 use Rattle.bounds.specs.Reading.{summedLower, summedUpper}
 use Rattle.bounds.specs.UntilEnds.{untilLower, untilUpper, until-ends}
@@ -59,18 +61,33 @@ module _ (c : Chain) (t : ℕ) (v w : ℕ → Verdict) (val : ℕ → ℕ → �
       ap (pointed (v s) (w s)) (cond-same (topRate c * t) _ _ _ (eqb (topRate c * t) 0) refl (λ p. summed-upper-same c t _ val s in-range (r p)))
 
 pub ends-found : (c : Chain) (t : ℕ) (v w : ℕ → Verdict) → depth c t ≤ mostDepth
-    → AtEach c λ s. EndsAt c t v w s (lowerFound c t v w s) (upperFound c t v w s)
+    → AtEach c λ s. EndsAt c (untilOf t v w) s (lowerFound c t v w s) (upperFound c t v w s)
 ends-found c t v w small s l =
     until-ends c t s v w l (rounded c (untilPhase (least v) (least w))) (rounded c (untilPhase (most v) (most w))) small
     (λ p. rounded-rounds c _) (λ p. rounded-rounds c _)
 
--- the verdict of a formula at each state
-unfoldable pub found : Chain → Formula → ℕ → Verdict
-found c always s = Yes
-found c (label name) s = marked (c .mark name s)
-found c (negated a) s = negation (found c a s)
-found c (both a b) s = conjunction (found c a s) (found c b s)
-found c (until r p t a b) s = judged r p (lowerFound c t (found c a) (found c b) s) (upperFound c t (found c a) (found c b) s)
+-- the ends of a path at each state, where its operands have the verdicts in o; one line for each kind of path
+abbrev pub lowerPath : Chain → PathOf (ℕ → Verdict) → ℕ → ℕ
+lowerPath c (untilOf t v w) s = lowerFound c t v w s
+
+abbrev pub upperPath : Chain → PathOf (ℕ → Verdict) → ℕ → ℕ
+upperPath c (untilOf t v w) s = upperFound c t v w s
+
+-- and the verdict that follows
+abbrev pub verdictPath : Chain → Comparison → ℕ → PathOf (ℕ → Verdict) → ℕ → Verdict
+verdictPath c r p o s = judged r p (lowerPath c o s) (upperPath c o s)
+
+-- the verdict of a formula at each state; and, of a path, those of its operands
+unfoldable mutual
+  pub found : Chain → Formula → ℕ → Verdict
+  found c always s = Yes
+  found c (label name) s = marked (c .mark name s)
+  found c (negated a) s = negation (found c a s)
+  found c (both a b) s = conjunction (found c a s) (found c b s)
+  found c (chance r p w) s = verdictPath c r p (foundIn c w) s
+
+  pub foundIn : Chain → Path → PathOf (ℕ → Verdict)
+  foundIn c (until t a b) = untilOf t (λ s. found c a s) (λ s. found c b s)
 
 -- the ends of its report
 unfoldable pub reportLower : Chain → Formula → ℕ → ℕ
@@ -78,67 +95,90 @@ reportLower c always s = plainLower (found c always s)
 reportLower c (label name) s = plainLower (found c (label name) s)
 reportLower c (negated a) s = plainLower (found c (negated a) s)
 reportLower c (both a b) s = plainLower (found c (both a b) s)
-reportLower c (until r p t a b) s = lowerFound c t (found c a) (found c b) s
+reportLower c (chance r p w) s = lowerPath c (foundIn c w) s
 
 unfoldable pub reportUpper : Chain → Formula → ℕ → ℕ
 reportUpper c always s = plainUpper (found c always s)
 reportUpper c (label name) s = plainUpper (found c (label name) s)
 reportUpper c (negated a) s = plainUpper (found c (negated a) s)
 reportUpper c (both a b) s = plainUpper (found c (both a b) s)
-reportUpper c (until r p t a b) s = upperFound c t (found c a) (found c b) s
+reportUpper c (chance r p w) s = upperPath c (foundIn c w) s
 
-until-backed : (c : Chain) (r : Comparison) (p t : ℕ) (a b : Formula) → depth c t ≤ mostDepth → Backed c a (found c a) → Backed c b (found c b)
-    → UntilBacked c r p t (Backed c a) (Backed c b) (lowerFound c t (found c a) (found c b)) (upperFound c t (found c a) (found c b))
-    (found c (until r p t a b))
-unfolding found
-until-backed c r p t a b small h k =
-    record {
-      first = found c a;
-      first-backed = h;
-      second = found c b;
-      second-backed = k;
-      ends = ends-found c t (found c a) (found c b) small;
-      verdict = λ s l. refl;
-    }
+-- a test of phases that bounds their depths
+module _ (c : Chain) (test : ℕ → Bool) (small : (t : ℕ) → test t ≡ true → depth c t ≤ mostDepth) where
+  -- each kind of path: the ends keep the rules, and the verdict follows
+  path-ends : (o : PathOf (ℕ → Verdict)) → phasesPass test o ≡ true → AtEach c λ s. EndsAt c o s (lowerPath c o s) (upperPath c o s)
+  path-ends (untilOf t v w) h = ends-found c t v w (small t h)
 
--- a formula whose untils pass a test that bounds their depths
-module _ (c : Chain) (test : ℕ → ℕ → Bool) (small : (p t : ℕ) → test p t ≡ true → depth c t ≤ mostDepth) where
-  pub found-backed : (f : Formula) → untilsPass test f ≡ true → Backed c f (found c f)
-  unfolding Backed found untilsPass
-  found-backed always h = λ s l. refl
-  found-backed (label name) h = λ s l. refl
-  found-backed (negated a) h = backed-not c a (found c a) _ (found-backed a h) (λ s l. refl)
-  found-backed (both a b) h =
-      let k : (untilsPass test a ≡ true) × (untilsPass test b ≡ true) = and-eq-true-iff _ _ .0 h in
-      backed-both c a b (found c a) (found c b) _ (found-backed a (k .0)) (found-backed b (k .1)) (λ s l. refl)
-  found-backed (until r p t a b) h =
-      let k : ((test p t && untilsPass test a) ≡ true) × (untilsPass test b ≡ true) = and-eq-true-iff _ _ .0 h in
-      let j : (test p t ≡ true) × (untilsPass test a ≡ true) = and-eq-true-iff _ _ .0 (k .0) in
-      record {
-        lower = lowerFound c t (found c a) (found c b);
-        upper = upperFound c t (found c a) (found c b);
-        keeps = until-backed c r p t a b (small p t (j .0)) (found-backed a (j .1)) (found-backed b (k .1));
-      }
+  path-follows : (r : Comparison) (p : ℕ) (o : PathOf (ℕ → Verdict)) (s : ℕ)
+      → FollowsAt c o r p s (lowerPath c o s) (upperPath c o s) (verdictPath c r p o s)
+  path-follows r p (untilOf t v w) s = refl
 
-  pub found-reported : (f : Formula) → untilsPass test f ≡ true → Reported c f (reportLower c f) (reportUpper c f) (found c f)
-  unfolding reportLower reportUpper untilsPass
+  chance-keeps : (r : Comparison) (p : ℕ) (o : PathOf (ℕ → Verdict)) → phasesPass test o ≡ true
+      → ChanceKeeps c r p (lowerPath c o) (upperPath c o) (verdictPath c r p o) o
+  chance-keeps r p o h = record { ends = path-ends o h; verdict = λ s l. path-follows r p o s }
+
+  -- the test sees the hours of a path alone
+  same-phases : (w : Path) → phasesPass test (pathOf w) ≡ true → phasesPass test (foundIn c w) ≡ true
+  unfolding foundIn
+  same-phases (until t a b) h = h
+
+  abbrev Passes : Formula → Type 0
+  Passes f = pathsPass (λ p o. phasesPass test o) f ≡ true
+
+  abbrev PassesIn : Path → Type 0
+  PassesIn w = pathsPassIn (λ p o. phasesPass test o) w ≡ true
+
+  mutual
+    unfolding found foundIn pathsPass pathsPassIn
+
+    pub found-backed : (f : Formula) → Passes f → Backed c f (λ s. found c f s)
+    found-backed always h = λ s l. refl
+    found-backed (label name) h = λ s l. refl
+    found-backed (negated a) h = record { first = λ s. found c a s; first-backed = found-backed a h; verdict = λ s l. refl }
+    found-backed (both a b) h =
+        let k : Passes a × Passes b = and-eq-true-iff _ _ .0 h in
+        record {
+          first = λ s. found c a s;
+          first-backed = found-backed a (k .0);
+          second = λ s. found c b s;
+          second-backed = found-backed b (k .1);
+          verdict = λ s l. refl;
+        }
+    found-backed (chance r p w) h =
+        let k : (phasesPass test (pathOf w) ≡ true) × PassesIn w = and-eq-true-iff _ _ .0 h in
+        record {
+          lower = lowerPath c (foundIn c w);
+          upper = upperPath c (foundIn c w);
+          keeps = path-backed w r p _ _ _ (chance-keeps r p (foundIn c w) (same-phases w (k .0))) (k .1);
+        }
+
+    pub path-backed : (w : Path) (r : Comparison) (p : ℕ) (lower upper : ℕ → ℕ) (v : ℕ → Verdict)
+        → ChanceKeeps c r p lower upper v (foundIn c w) → PassesIn w → PathBacked c w (ChanceKeeps c r p lower upper v)
+    path-backed (until t a b) r p lower upper v k h =
+        let i : Passes a × Passes b = and-eq-true-iff _ _ .0 h in
+        record {
+          first = λ s. found c a s;
+          first-backed = found-backed a (i .0);
+          second = λ s. found c b s;
+          second-backed = found-backed b (i .1);
+          keeps = k;
+        }
+
+  pub found-reported : (f : Formula) → Passes f → Reported c f (reportLower c f) (reportUpper c f) (found c f)
+  unfolding reportLower reportUpper pathsPass found
   found-reported always h = record { backed = found-backed always h; lowers = λ s l. refl; uppers = λ s l. refl }
   found-reported (label name) h = record { backed = found-backed (label name) h; lowers = λ s l. refl; uppers = λ s l. refl }
   found-reported (negated a) h = record { backed = found-backed (negated a) h; lowers = λ s l. refl; uppers = λ s l. refl }
   found-reported (both a b) h = record { backed = found-backed (both a b) h; lowers = λ s l. refl; uppers = λ s l. refl }
-  found-reported (until r p t a b) h =
-      let k : ((test p t && untilsPass test a) ≡ true) × (untilsPass test b ≡ true) = and-eq-true-iff _ _ .0 h in
-      let j : (test p t ≡ true) × (untilsPass test a ≡ true) = and-eq-true-iff _ _ .0 (k .0) in
-      until-backed c r p t a b (small p t (j .0)) (found-backed a (j .1)) (found-backed b (k .1))
+  found-reported (chance r p w) h =
+      let k : (phasesPass test (pathOf w) ≡ true) × PassesIn w = and-eq-true-iff _ _ .0 h in
+      path-backed w r p _ _ _ (chance-keeps r p (foundIn c w) (same-phases w (k .0))) (k .1)
 
 -- "q × t over 64,000,000 for some until" is turned back
-load-small : (c : Chain) (p t : ℕ) → leb (topRate c * t) mostRateHours ≡ true → depth c t ≤ mostDepth
+load-small : (c : Chain) (t : ℕ) → leb (topRate c * t) mostRateHours ≡ true → depth c t ≤ mostDepth
 unfolding depth load
-load-small c p t h = omega (arith, leb-true (topRate c * t) mostRateHours h)
+load-small c t h = omega (arith, leb-true (topRate c * t) mostRateHours h)
 
-pub job-reported : (j : Job) → highLoad j ≡ false
-    → Reported (jobChain j) (jobFormula j) (reportLower (jobChain j) (jobFormula j)) (reportUpper (jobChain j) (jobFormula j))
-    (found (jobChain j) (jobFormula j))
-unfolding highLoad
-job-reported j h =
-    found-reported (jobChain j) (λ p t. leb (topRate (jobChain j) * t) mostRateHours) (load-small (jobChain j)) (jobFormula j) (not-false _ h)
+pub report-found : (c : Chain) (f : Formula) → pathsPass (inLoad (topRate c)) f ≡ true → Reported c f (reportLower c f) (reportUpper c f) (found c f)
+report-found c f h = found-reported c (λ t. leb (topRate c * t) mostRateHours) (load-small c) f h

@@ -8,11 +8,12 @@ pub mod Last
 pub mod Ends
 pub mod Upper
 pub mod Width
-pub mod Values
+pub mod StepValues
 pub mod Rounded
 pub mod Near
 pub mod Quotient
 pub mod PhaseEnd
+pub mod SummedEnds
 pub mod Reading
 pub mod UntilEnds
 pub mod Found

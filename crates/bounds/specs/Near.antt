@@ -10,7 +10,7 @@ use Rattle.csl.specs.Phase.{Phase, moved, divisor, stepped, stepTop}
 use Rattle.csl.specs.Laws.Steps.{exit-le}
 use Rattle.bounds.specs.Unit.{one}
 use Rattle.bounds.specs.Upper.{remaining}
-use Rattle.bounds.specs.Values.{settled, Runs}
+use Rattle.bounds.specs.StepValues.{settled, Runs}
 use Rattle.bounds.specs.Rounded.{running}
 
 -- a step of values v that are, in parts of z, at most e below o times values w; first the sum over the other states

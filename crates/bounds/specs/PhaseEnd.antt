@@ -18,7 +18,7 @@ use Rattle.bounds.specs.Unit.{unit, one}
 use Rattle.bounds.specs.Ends.{lowerEnd, LowerValues}
 use Rattle.bounds.specs.Upper.{remaining, leftEnd, upperEnd, left-lower}
 use Rattle.bounds.specs.Width.{mostDepth, width}
-use Rattle.bounds.specs.Values.{Runs}
+use Rattle.bounds.specs.StepValues.{Runs}
 use Rattle.bounds.specs.Rounded.{divisor-power, values-below}
 use Rattle.bounds.specs.Near.{left-below}
 use Rattle.bounds.specs.Quotient.{end-below}

@@ -5,17 +5,19 @@ use mathlib.Core.Bool.{Bool, true, false}
 use Prim.Native.Nat.{ℕ, zero, suc, _*_, _-_, _/_, _≤_, _<_}
 use native.Mathlib.Omega.{arith}
 use Rattle.csl.specs.Limits.{billion, rateHours}
+use Rattle.csl.specs.Formula.{untilOf}
 use Rattle.csl.specs.Chain.{Chain, topRate, load, depth}
-use Rattle.csl.specs.Phase.{Phase, bit, untilPhase}
-use Rattle.csl.specs.Verdicts.{Verdict, No, Yes, least, most}
-use Rattle.csl.specs.Ends.{EndsAt, AllDecided}
-use Rattle.csl.specs.Laws.Verdicts.{decided-same}
+use Rattle.csl.specs.Phase.{Phase, bit}
+use Rattle.csl.specs.Verdicts.{Verdict, No, Yes, Undecided, Decided, asNo, asYes, least, most}
+use Rattle.csl.specs.Until.{untilPhase}
+use Rattle.csl.specs.Path.{AllDecided}
+use Rattle.csl.specs.Ends.{EndsAt}
 use Rattle.csl.specs.Laws.Quotient.{until-starts}
-use Rattle.csl.specs.Laws.SummedEnds.{Bounds, ends-summed}
 use Rattle.bounds.specs.Ends.{lowerEnd, end-most}
 use Rattle.bounds.specs.Upper.{upperEnd, left-same}
 use Rattle.bounds.specs.Width.{mostDepth}
-use Rattle.bounds.specs.Values.{Rounds}
+use Rattle.bounds.specs.StepValues.{Rounds}
+use Rattle.bounds.specs.SummedEnds.{Bounds, ends-summed}
 use Rattle.bounds.specs.Rounded.{rounds-run, rounds-same, rounds-most}
 use Rattle.bounds.specs.PhaseEnd.{PhaseEnds, phase-ends}
 
@@ -24,6 +26,11 @@ bit-most true = omega arith
 bit-most false = omega arith
 
 -- with every operand state decided the two readings are one
+pub decided-same : (x : Verdict) → Decided x → asNo x ≡ asYes x
+decided-same No d = refl
+decided-same Yes d = refl
+decided-same Undecided d = absurd d
+
 decided-rounds : (c : Chain) (v w : ℕ → Verdict) → AllDecided c v → AllDecided c w → (val : ℕ → ℕ → ℕ)
     → Rounds c (untilPhase (most v) (most w)) val → Rounds c (untilPhase (least v) (least w)) val
 decided-rounds c v w d e val r =
@@ -69,7 +76,7 @@ module _ (c : Chain) (t s : ℕ) (in-range : s < c .states) (small : depth c t �
   -- by both.
   pub summed-ends : (v w : ℕ → Verdict) (val high : ℕ → ℕ → ℕ) → Rounds c (untilPhase (least v) (least w)) val
       → Rounds c (untilPhase (most v) (most w)) high → (w s ≡ Yes → ⊥) → (v s ≡ No → w s ≡ No → ⊥)
-      → EndsAt c t v w s (summedLower c t val s) (summedUpper c t high s)
+      → EndsAt c (untilOf t v w) s (summedLower c t val s) (summedUpper c t high s)
   summed-ends v w val high r r' not-certain not-impossible =
       let b = reading-bounds (least v) (least w) val r in
       ends-summed c t v w s (summedLower c t val s) (summedUpper c t val s) (summedLower c t high s) (summedUpper c t high s)

@@ -1,226 +1,229 @@
 -- The report of a job that passed all tests, from step to step. Assumes nothing.
-use mathlib.Core.Path.{_≡_, sym, ap, _∙_}
-use mathlib.Core.List.{List}
+use mathlib.Core.Path.{_≡_, refl, sym, ap, _∙_}
+use mathlib.Core.Bool.{Bool, true, false}
+use mathlib.Core.List.{List, _++_}
 use Prim.Native.Nat.{ℕ, _+_, _-_, _*_, _≤_, _<_}
 use native.Mathlib.Omega.{arith}
-use native.Mathlib.Nat.{mul-le-mul-right, mul-le-mul}
-use lib.ListN.{length, take, drop, replicate}
-use lib.Seq.{length-take-le}
+use native.Mathlib.Nat.{mul-le-mul, mul-le-mul-right}
+use lib.ListN.{length, take, drop, replicate, length-append, length-drop, length-replicate, List·getD-eq-default, List·getD-append}
+use lib.Seq.{length-take-le, getD-take, getD-drop, getD-append-add, ext-getD}
+use lib.Dec.{ltb}
+use borrow.Author.Tests.{ltb-true, ltb-false}
 use Rattle.csl.specs.Text.{Text}
-use Rattle.csl.specs.Limits.{mostLevels}
-use Rattle.csl.specs.Line.{lineFeed, comma}
-use Rattle.csl.specs.Labels.{namesOf}
+use Rattle.csl.specs.Limits.{mostStates, mostNodes, mostLevels}
+use Rattle.csl.specs.Labels.{namesOf, statesOf}
+use Rattle.csl.specs.Moves.{movesOf}
+use Rattle.csl.specs.Sheet.{sheetOf}
 use Rattle.csl.specs.Formula.{nodes, levels}
-use Rattle.csl.specs.Grammar.{readFormula}
-use Rattle.csl.specs.Chain.{chainOf}
-use Rattle.csl.specs.Lent.{Buffers, lengths, verdictByte, column, written}
-use Rattle.csl.specs.Refusal.{Job, jobStates, jobMoves, jobChain, jobFormula}
-use Rattle.csl.specs.Laws.Accepted.{known-labels, bounds-kept, loads-kept}
-use Rattle.bounds.specs.Found.{found, reportLower, reportUpper}
-use Rattle.texts.specs.Span.{spanOf}
-use Rattle.tokens.specs.Behind.{partsBehind}
-use Rattle.store.specs.Placed.{placed}
-use Rattle.store.specs.Shown.{shown, kindAt, OperandsBefore}
-use Rattle.store.specs.declared.Store.{Store}
-use Rattle.formula.specs.Listed.{stored, storeOf}
-use Rattle.formula.specs.Shows.{nodes-some}
-use Rattle.formula.specs.Stored.{shown-stored}
-use Rattle.refusals.specs.Tested.{acceptedOf}
-use Rattle.refusals.specs.Kept.{Held, held, passed-is, accepted-is}
-use Rattle.refusals.specs.declared.Accepted.{Accepted}
-use Rattle.prepare.specs.Asked.{PrepareAsked, Prepared}
-use Rattle.decide.specs.Asked.{Asked, Decided}
-use Rattle.conclude.specs.Concluded.{ConcludeAsked, Concluded}
+use Rattle.csl.specs.Chain.{Chain, chainOf, topRate}
+use Rattle.csl.specs.Lent.{Buffers, lengths, column, written}
+use Rattle.numbers.specs.Filled.{at, Table, table-at, table-rest, zeros-written}
+use Rattle.formula.specs.Each.{nodes-some}
+use Rattle.formula.specs.Stored.{levels-nodes}
+use Rattle.formula.specs.declared.nodes.Nodes.{Nodes}
+use Rattle.vectors.specs.Places.{vectorLength}
+use Rattle.verdict_rows.specs.Row.{EndsIn}
+use Rattle.results.specs.Column.{column-as}
+use Rattle.refusals.specs.Sheet.{dimensionsOf}
+use Rattle.refusals.specs.declared.sheet_tests.Dimensions.{Dimensions}
+use Rattle.sheet_words.specs.Stored.{StoreAsked, Stored}
+use Rattle.sheet_words.specs.Shown.{sheet-shown, marks-shown}
+use Rattle.decide.specs.Asked.{DecideAsked, Decides, formulaOf}
 use Rattle.checker.specs.Job.{buffers}
-use Rattle.checker.specs.Asked.{ReportAsked, Filled}
-use Rattle.checker.specs.Stored.{levels-nodes, operands-before}
-use Rattle.checker.specs.Room.{HasRoom, has-room, cleared-beyond}
+use Rattle.checker.specs.Report.{chainIn, formulaIn, Ready, DecideAll, Decided, ClearAsked, Cleared, ReportAsked, ReportLeft}
 
-module _ {j : Job} {a : Accepted} {before : Buffers (List ℕ)} (r : ReportAsked j a before) where
-  pub kept : Held j
-  kept = held j (passed-is j a (r .passed))
+-- what was handed over is what the sheet and the formula have
+module _ {m₀ labels : Text} {d : Dimensions} {x : Nodes} (r : Ready m₀ labels d x) where
+  pub states-are : d .states ≡ statesOf labels
+  states-are = ap (λ (y : Dimensions). y .states) (r .is)
 
-  pub is : acceptedOf j ≡ a
-  is = accepted-is j a (r .passed)
+  pub moves-are : d .moves ≡ length (movesOf m₀)
+  moves-are = ap (λ (y : Dimensions). y .moves) (r .is)
 
-  pub room : HasRoom (a .states) (a .moves) (a .nodes) (lengths before)
-  room = has-room (lengths before) (a .states) (a .moves) (a .nodes) (r .room)
+  pub q-is : d .q ≡ topRate (chainIn m₀ labels)
+  q-is = ap (λ (y : Dimensions). y .q) (r .is)
 
-  -- what was handed over is what the job has
-  pub states-are : a .states ≡ jobStates j
-  states-are = ap (λ (x : Accepted). x .states) (sym is)
+  pub few-states : d .states ≤ mostStates
+  few-states = omega (arith, states-are, r .passed .sound .few-states)
 
-  pub moves-are : a .moves ≡ length (jobMoves j)
-  moves-are = ap (λ (x : Accepted). x .moves) (sym is)
+  pub some-node : 1 ≤ x .count
+  some-node = omega (arith, r .counted, nodes-some (formulaIn labels x))
 
-  pub names-are : a .names ≡ length (namesOf (j .labels))
-  names-are = ap (λ (x : Accepted). x .names) (sym is)
+  pub few-marks : x .count * d .states ≤ mostNodes * mostStates
+  few-marks = mul-le-mul (r .few-nodes) few-states
 
-  pub nodes-are : a .nodes ≡ nodes (jobFormula j)
-  nodes-are = ap (λ (x : Accepted). x .nodes) (sym is)
+-- a list with ys in the place of its first n entries
+module _ (xs ys : List ℕ) (n : ℕ) (h : n ≤ length xs) (e : length ys ≡ length (take n xs)) where
+  many : length ys ≡ n
+  many = e ∙ length-take-le n xs h
 
-  pub first-are : a .first ≡ spanOf lineFeed (j .labels)
-  first-are = ap (λ (x : Accepted). x .first) (sym is)
+  front-length : length (ys ++ drop n xs) ≡ length xs
+  front-length = length-append ys (drop n xs) ∙ omega (arith, many, length-drop n xs)
 
-  pub some-node : 1 ≤ a .nodes
-  some-node = omega (arith, nodes-are, nodes-some (jobFormula j))
+  front-at : (k : ℕ) → k < n → at (ys ++ drop n xs) k ≡ at ys k
+  front-at k l = List·getD-append ys (drop n xs) 0 k (omega (arith, many))
 
-  pub few-nodes : a .nodes ≤ 64
-  few-nodes = omega (arith, nodes-are, kept .nodes-fit)
+  front-beyond : (k : ℕ) → n ≤ k → at (ys ++ drop n xs) k ≡ at xs k
+  front-beyond k l =
+      let z : n + (k - n) ≡ k = omega arith in
+      let y : length ys + (k - n) ≡ k = omega (arith, many) in
+      ap (at (ys ++ drop n xs)) (sym y) ∙ getD-append-add ys (drop n xs) (k - n) 0 ∙ getD-drop n xs (k - n) 0 ∙ ap (at xs) z
 
-  pub few-states : a .states ≤ 512
-  few-states = omega (arith, states-are, kept .states-fit)
+-- 0 in all places of a front that is cleared, and beyond its end
+pub front-zero : (l₀ l : List ℕ) (n : ℕ) → n ≤ length l → Table (λ _. 0) l₀ l n → (k : ℕ) → at (take n l) k ≡ 0
+front-zero l₀ l n h t k = go (ltb k n) refl
+  where
+    go : (b : Bool) → ltb k n ≡ b → at (take n l) k ≡ 0
+    go true e = getD-take n l k 0 (ltb-true k n e) ∙ table-at t k (ltb-true k n e)
+    go false e = List·getD-eq-default (take n l) 0 (omega (arith, length-take-le n l h, ltb-false k n e))
 
-  pub few-marks : a .nodes * a .states ≤ 32768
-  few-marks = omega (arith, mul-le-mul few-nodes few-states)
+-- storing and deciding
+module _ {m₀ labels : Text} {d : Dimensions} {x : Nodes} {words₀ vectors₀ marks₀ : List ℕ} (r : DecideAll m₀ labels d x words₀ vectors₀ marks₀) where
+  pub small : d .states ≤ mostStates
+  small = few-states (r .ready)
 
-  pub word-before : 5 ≤ a .first
-  word-before = omega (arith, first-are, kept .word-before)
+  pub some : 1 ≤ x .count
+  some = some-node (r .ready)
 
-  pub line-ends : a .first < length (j .labels)
-  line-ends = omega (arith, first-are, kept .line-ends)
+  pub rows-few : x .count * d .states ≤ mostNodes * mostStates
+  rows-few = few-marks (r .ready)
 
-  pub line-inside : a .first ≤ length (j .labels)
-  line-inside = omega (arith, line-ends)
-
-  pub levels-fit : levels (jobFormula j) ≤ a .nodes
-  levels-fit = omega (arith, nodes-are, levels-nodes (jobFormula j))
-
-  abbrev pub prepare-asked : PrepareAsked (j .moves) (j .labels) (a .states) (a .moves) (a .names) (before .moves) (before .vectors)
-  prepare-asked =
+  pub store-asked : StoreAsked m₀ labels d words₀ vectors₀
+  store-asked =
       record {
-        formula = j .formula;
-        passed = kept .passed;
-        states-are = states-are;
-        lines-are = moves-are;
-        names-are = names-are;
-        room = room .moves;
-        long = room .vectors;
+        passed = r .ready .passed;
+        is = r .ready .is;
+        room = omega (arith, moves-are (r .ready), r .in-words);
+        long = rw (states-are (r .ready)) at (r .in-vectors);
       }
 
-  pub words-long : {words vectors : List ℕ} {q : ℕ}
-      → Prepared (j .moves) (j .labels) (a .states) (a .moves) (before .moves) words (before .vectors) vectors q → a .moves ≤ length words
-  words-long p = omega (arith, room .moves, p .words-same)
+  pub clear-asked : x .count * d .states ≤ length marks₀
+  clear-asked = r .in-marks
 
-  pub part-long : {words vectors : List ℕ} {q : ℕ}
-      → Prepared (j .moves) (j .labels) (a .states) (a .moves) (before .moves) words (before .vectors) vectors q → a .moves ≡ length (take (a .moves) words)
-  part-long {words = words} p = sym (length-take-le (a .moves) words (words-long p))
+  module _ {words vectors marks : List ℕ} (s : Stored m₀ labels words₀ words vectors₀ vectors)
+      (z : Table (λ _. 0) marks₀ marks (x .count * d .states)) where
+    pub words-long : d .moves ≤ length words
+    words-long = omega (arith, r .in-words, s .lines .same)
 
-  -- the words are ready, and the formula is stored
-  module _ {words vectors : List ℕ} {q : ℕ}
-      (p : Prepared (j .moves) (j .labels) (a .states) (a .moves) (before .moves) words (before .vectors) vectors q) {store : Store}
-      (b : store ≡ storeOf (partsBehind comma (take (a .first - 5) (drop 5 (j .labels)))) (readFormula (j .formula))) where
-    store-is : store ≡ stored (namesOf (j .labels)) (jobFormula j)
-    store-is =
-        b
-        ∙ ap (λ (x : ℕ). storeOf (partsBehind comma (take (x - 5) (drop 5 (j .labels)))) (readFormula (j .formula))) first-are
-        ∙ ap (λ (x : List Text). storeOf x (readFormula (j .formula))) (kept .names-behind)
-        ∙ kept .store-is
+    pub words-counted : d .moves ≡ length (take (d .moves) words)
+    words-counted = sym (length-take-le (d .moves) words words-long)
 
-    pub tree : shown mostLevels (store .nodes) (a .nodes - 1) ≡ placed (namesOf (j .labels)) (jobFormula j)
-    unfolding stored
-    tree = rw (store-is, nodes-are) (shown-stored (namesOf (j .labels)) (jobFormula j) (kept .levels-fit))
+    pub marks-long : x .count * d .states ≤ length marks
+    marks-long = omega (arith, r .in-marks, z .same)
 
-    pub operands : (k : ℕ) → OperandsBefore k (kindAt (store .nodes) k)
-    operands k = rw store-is (operands-before (namesOf (j .labels)) (jobFormula j) k)
+    pub marks-counted : x .count * d .states ≡ length (take (x .count * d .states) marks)
+    marks-counted = sym (length-take-le (x .count * d .states) marks marks-long)
 
-    abbrev pub decide-asked : Asked (take (a .moves) words) vectors (before .marks) (store .nodes) (a .nodes - 1) 16 0 (a .states) q
+    pub levels-few : levels (formulaIn labels x) ≤ x .count
+    levels-few = omega (arith, r .ready .counted, levels-nodes (formulaIn labels x))
+
+    abbrev pub decide-asked : DecideAsked (take (d .moves) words) vectors (take (x .count * d .states) marks) (x .nodes) (x .count - 1) mostLevels (d .states) (d .q)
     decide-asked =
         record {
-          c = jobChain j;
-          names = namesOf (j .labels);
-          f = jobFormula j;
-          tree = tree;
-          deep = kept .levels-fit;
-          inside = omega (arith, some-node, few-nodes);
-          operands = λ k h. operands k;
-          shows = p .shows;
-          ready = p .ready;
-          marked = p .marked;
-          few = kept .names-fit;
-          labels = known-labels (kept .passed);
-          bounds = bounds-kept (kept .passed);
-          loads = loads-kept (kept .passed) q (p .top);
-          room = omega (arith, mul-le-mul-right (a .states) levels-fit, room .marks);
-          slots = omega (arith, kept .levels-fit);
+          c = chainIn m₀ labels;
+          names = namesOf labels;
+          few = r .ready .passed .sound .few-names;
+          shows = rw (moves-are (r .ready), states-are (r .ready)) (sheet-shown (r .ready .passed) s);
+          prepared = rw (moves-are (r .ready), states-are (r .ready), q-is (r .ready)) (s .prepared);
+          marked = rw (states-are (r .ready)) (marks-shown (r .ready .passed) s);
+          inside = omega (arith, some, r .ready .few-nodes);
+          fits = rw (q-is (r .ready)) (λ k h. r .ready .fits k (omega (arith, some)));
+          deep = r .ready .few-levels;
+          room = omega (arith, marks-counted, mul-le-mul-right (d .states) levels-few);
+          clear = λ k h. front-zero marks₀ marks (x .count * d .states) marks-long z k;
         }
 
-    -- the formula is decided
-    module _ {vectors' marks' : List ℕ}
-        (d : (x : Asked (take (a .moves) words) vectors (before .marks) (store .nodes) (a .nodes - 1) 16 0 (a .states) q)
-        → Decided (x .c) (x .f) 0 (a .states) vectors vectors' (before .marks) marks') where
-      pub decided : Decided (jobChain j) (jobFormula j) 0 (a .states) vectors vectors' (before .marks) marks'
-      decided = d decide-asked
+    module _ {vectors' part : List ℕ} {depth : ℕ}
+        (e : (a : DecideAsked (take (d .moves) words) vectors (take (x .count * d .states) marks) (x .nodes) (x .count - 1) mostLevels (d .states) (d .q))
+        → Decides (a .c) (formulaOf a) (d .states) vectors vectors' (take (x .count * d .states) marks) part depth) where
+      decides : Decides (chainIn m₀ labels) (formulaIn labels x) (d .states) vectors vectors' (take (x .count * d .states) marks) part depth
+      decides = e decide-asked
 
-      pub chain-states : (jobChain j) .states ≡ a .states
-      unfolding chainOf
-      chain-states = sym states-are
+      back : List ℕ
+      back = part ++ drop (x .count * d .states) marks
 
-      abbrev pub conclude-asked : ConcludeAsked vectors' marks' (store .nodes) (a .nodes - 1) (a .states) q
-      conclude-asked =
+      one-row : d .states ≤ x .count * d .states
+      one-row = omega (arith, mul-le-mul-right (d .states) some)
+
+      pub all-decided : Decided m₀ labels x words₀ words vectors₀ vectors' marks₀ (part ++ drop (x .count * d .states) marks) depth
+      all-decided =
+          let k = x .count * d .states in
           record {
-            c = jobChain j;
-            names = namesOf (j .labels);
-            f = jobFormula j;
-            tree = tree;
-            inside = omega (arith, some-node, few-nodes);
-            states = chain-states;
-            top = p .top;
-            loads = loads-kept (kept .passed) q (p .top);
-            row = decided .row;
-            long = omega (arith, mul-le-mul-right (a .states) some-node, room .marks, decided .same);
-            ends = decided .ends;
+            deep = decides .deep;
+            lowers = λ i b. decides .ends .lowers i (omega (arith, states-are (r .ready)));
+            uppers = λ i b.
+                ap (λ (n : ℕ). at vectors' (n + i)) (sym (states-are (r .ready))) ∙ decides .ends .uppers i (omega (arith, states-are (r .ready)));
+            range = rw (← states-are (r .ready)) (decides .range);
+            bytes = λ i b.
+                front-at marks part k marks-long (decides .row .same) i (omega (arith, states-are (r .ready), one-row))
+                ∙ table-at (decides .row) i (omega (arith, states-are (r .ready)));
+            words-same = s .lines .same;
+            words-beyond = table-rest (s .lines);
+            vectors-same = decides .ends .same ∙ s .same;
+            vectors-beyond = λ i b. decides .ends .after i (omega (arith, states-are (r .ready))) ∙ s .beyond i b;
+            marks-same = front-length marks part k marks-long (decides .row .same) ∙ z .same;
+            marks-beyond = rw (← states-are (r .ready)) (λ i b. front-beyond marks part k marks-long (decides .row .same) i b ∙ table-rest z i b);
           }
 
-      pub vectors-long : 10 * a .states + 512 ≤ length vectors'
-      vectors-long = omega (arith, room .vectors, p .vectors-same, decided .kept .same)
+pub ruleset decide-laws = (small, some, rows-few, store-asked, clear-asked, words-long, words-counted, marks-long, marks-counted)
 
-      pub marks-long : a .nodes * a .states ≤ length marks'
-      marks-long = omega (arith, room .marks, decided .same)
+drop-beyond : (n : ℕ) (l l₀ : List ℕ) → length l ≡ length l₀ → ((k : ℕ) → n ≤ k → at l k ≡ at l₀ k) → drop n l ≡ drop n l₀
+drop-beyond n l l₀ e h =
+    ext-getD 0 (drop n l) (drop n l₀) (length-drop n l ∙ ap (λ (k : ℕ). k - n) e ∙ sym (length-drop n l₀))
+    λ i b. getD-drop n l i 0 ∙ h (n + i) (omega arith) ∙ sym (getD-drop n l₀ i 0)
 
-      past-levels : (k : ℕ) → a .nodes * a .states ≤ k → (0 + levels (jobFormula j)) * a .states ≤ k
-      past-levels k h = omega (arith, mul-le-mul-right (a .states) levels-fit)
+-- zeros in the first n places, where all beyond is as it was
+cleared-beyond : (n : ℕ) (l l₀ : List ℕ) {l' : List ℕ} → length l ≡ length l₀ → ((k : ℕ) → n ≤ k → at l k ≡ at l₀ k)
+    → l' ≡ written (replicate n 0) l → l' ≡ written (replicate n 0) l₀
+unfolding written
+cleared-beyond n l l₀ e h z =
+    z ∙ ap (λ (t : List ℕ). replicate {A = ℕ} n 0 ++ t) (drop-beyond (length (replicate {A = ℕ} n 0)) l l₀ e λ k b. h k (omega (arith, length-replicate {A = ℕ} n 0)))
 
-      -- the report stands, and the other buffers are cleared
-      module _ {lower upper verdicts words' vectors'' marks'' : List ℕ} {depth : ℕ}
-          (e : (x : ConcludeAsked vectors' marks' (store .nodes) (a .nodes - 1) (a .states) q)
-          → Concluded (x .c) (x .f) (a .states) (before .lower) lower (before .upper) upper (before .verdicts) verdicts depth)
-          (w : words' ≡ written (replicate (a .moves) 0) words) (v : vectors'' ≡ written (replicate (10 * a .states + 512) 0) vectors')
-          (m : marks'' ≡ written (replicate (a .nodes * a .states) 0) marks') where
-        concluded : Concluded (jobChain j) (jobFormula j) (a .states) (before .lower) lower (before .upper) upper (before .verdicts) verdicts depth
-        concluded = e conclude-asked
+-- the report from what was decided, and zeros
+module _ {m₀ labels : Text} {d : Dimensions} {x : Nodes} {before : Buffers (List ℕ)} (r : ReportAsked m₀ labels d x before) where
+  pub decide-all-asked : DecideAll m₀ labels d x (before .moves) (before .vectors) (before .marks)
+  decide-all-asked = record { ready = r .ready; in-words = r .room .moves; in-vectors = r .room .vectors; in-marks = r .room .marks }
 
-        words-cleared : words' ≡ written (replicate (a .moves) 0) (before .moves)
-        words-cleared = cleared-beyond (a .moves) words (before .moves) (p .words-same) (p .words-beyond) w
+  module _ {words vectors marks : List ℕ} {depth : ℕ} (k : Decided m₀ labels x (before .moves) words (before .vectors) vectors (before .marks) marks depth) where
+    pub write-asked : EndsIn (d .states) vectors × (d .states ≤ length marks)
+    write-asked =
+        (rw (states-are (r .ready)) (k .range), omega (arith, mul-le-mul-right (d .states) (some-node (r .ready)), r .room .marks, k .marks-same))
 
-        vectors-cleared : vectors'' ≡ written (replicate (10 * a .states + 512) 0) (before .vectors)
-        vectors-cleared =
-            cleared-beyond (10 * a .states + 512) vectors' (before .vectors) (decided .kept .same ∙ p .vectors-same)
-            (λ k h. decided .kept .marks k (omega arith) ∙ p .vectors-beyond k h) v
+    pub clear-all-asked : ClearAsked (d .states) (d .moves) (x .count) words vectors marks
+    clear-all-asked =
+        record {
+          states = few-states (r .ready);
+          nodes = r .ready .few-nodes;
+          in-words = omega (arith, r .room .moves, k .words-same);
+          in-vectors = omega (arith, r .room .vectors, k .vectors-same);
+          in-marks = omega (arith, r .room .marks, k .marks-same);
+        }
 
-        marks-cleared : marks'' ≡ written (replicate (a .nodes * a .states) 0) (before .marks)
-        marks-cleared =
-            cleared-beyond (a .nodes * a .states) marks' (before .marks) (decided .same) (λ k h. decided .beyond k (past-levels k h)) m
+    pub left : {lower upper verdicts words' vectors' marks' : List ℕ}
+        → lower ≡ written (column (λ s. at vectors s) (d .states)) (before .lower)
+        → upper ≡ written (column (λ s. at vectors (d .states + s)) (d .states)) (before .upper)
+        → verdicts ≡ written (column (λ s. at marks s) (d .states)) (before .verdicts)
+        → Cleared (d .states) (d .moves) (x .count) words words' vectors vectors' marks marks'
+        → ReportLeft m₀ labels x before (buffers lower upper verdicts words' vectors' marks') depth
+    left lo up by z =
+        record {
+          deep = k .deep;
+          each = record {
+            lowers = column-as _ _ (statesOf labels) (before .lower) (k .lowers) (rw (states-are (r .ready)) at lo);
+            uppers = column-as _ _ (statesOf labels) (before .upper) (k .uppers) (rw (states-are (r .ready)) at up);
+            bytes = column-as _ _ (statesOf labels) (before .verdicts) (k .bytes) (rw (states-are (r .ready)) at by);
+            moves = cleared-beyond _ words (before .moves) (k .words-same) (k .words-beyond) (rw (moves-are (r .ready)) at (z .in-words));
+            vectors = cleared-beyond _ vectors (before .vectors) (k .vectors-same) (k .vectors-beyond) (rw (states-are (r .ready)) at (z .in-vectors));
+            marks = cleared-beyond _ marks (before .marks) (k .marks-same) (k .marks-beyond) (rw (states-are (r .ready)) at (z .in-marks));
+          };
+        }
 
-        pub filled : Filled j before (buffers lower upper verdicts words' vectors'' marks'') depth
-        filled =
-            record {
-              deep = concluded .deep;
-              each
-                  = record {
-                    lowers
-                        = concluded .lowers ∙ ap (λ (n : ℕ). written (column (reportLower (jobChain j) (jobFormula j)) n) (before .lower)) states-are;
-                    uppers
-                        = concluded .uppers ∙ ap (λ (n : ℕ). written (column (reportUpper (jobChain j) (jobFormula j)) n) (before .upper)) states-are;
-                    bytes
-                        = concluded .bytes
-                        ∙ ap (λ (n : ℕ). written (column (λ s. verdictByte (found (jobChain j) (jobFormula j) s)) n) (before .verdicts)) states-are;
-                    moves = words-cleared ∙ ap (λ (n : ℕ). written (replicate n 0) (before .moves)) moves-are;
-                    vectors = vectors-cleared ∙ ap (λ (n : ℕ). written (replicate (10 * n + 512) 0) (before .vectors)) states-are;
-                    marks
-                        = marks-cleared ∙ ap (λ (n : ℕ). written (replicate (n * a .states) 0) (before .marks)) nodes-are
-                        ∙ ap (λ (n : ℕ). written (replicate (nodes (jobFormula j) * n) 0) (before .marks)) states-are;
-                  };
-            }
+-- zeros in all that was worked in
+pub all-cleared : {n m k : ℕ} {words words' vectors vectors' marks marks' : List ℕ} {v : ℕ} → ClearAsked n m k words vectors marks → v ≡ vectorLength n
+    → words' ≡ written (replicate m 0) words → vectors' ≡ written (replicate v 0) vectors → Table (λ _. 0) marks marks' (k * n)
+    → Cleared n m k words words' vectors vectors' marks marks'
+all-cleared {vectors = vectors} a e ws vs ms =
+    record { in-words = ws; in-vectors = vs ∙ ap (λ (i : ℕ). written (replicate i 0) vectors) e; in-marks = zeros-written (a .in-marks) ms }
 
-pub ruleset report-laws = (some-node, word-before, line-inside, prepare-asked, words-long, part-long)
+pub rows-fit : {n m k : ℕ} {words vectors marks : List ℕ} → ClearAsked n m k words vectors marks → k * n ≤ mostNodes * mostStates
+rows-fit a = mul-le-mul (a .nodes) (a .states)

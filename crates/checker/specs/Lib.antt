@@ -1,5 +1,5 @@
--- The checker's job and buffers, what its report asks and leaves, and the laws of its store and its buffers.
+-- The checker's job and buffers, and what its functions ask and leave.
 pub mod Job
-pub mod Asked
-pub mod Stored
+pub mod Checked
 pub mod Room
+pub mod Report

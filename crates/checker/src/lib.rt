@@ -1,15 +1,37 @@
 // The checker: three texts and the lent buffers in, one finished report or one refusal number out.
-use refusals::Accepted;
-use refusals::Tested;
-use values::Answer;
-ghost use Rattle.csl.specs.Finished.{Finished};
-ghost use Rattle.values.specs.Paper.{answerOf};
-ghost use Rattle.checker.specs.Job.{job, buffers};
-ghost use Rattle.checker.specs.Asked.{ReportAsked, Filled};
+mod report;
 
-// Writes the report of a job that passed all tests, leaves zeros in the other lent buffers, and answers the depth.
-fn report(
-    accepted: Accepted,
+use refusals::Dimensions;
+use refusals::Lengths;
+use refusals::Tested;
+use verdicts::Answer;
+ghost use mathlib.Core.Path.{_≡_};
+ghost use Rattle.csl.specs.Lent.{lengths};
+ghost use Rattle.csl.specs.Refusal.{outcome};
+ghost use Rattle.csl.specs.Finished.{Finished};
+ghost use Rattle.verdicts.specs.Paper.{answerOf};
+ghost use Rattle.checker.specs.Job.{job, buffers, statesIn};
+ghost use Rattle.checker.specs.Checked.{turnedBack, SheetReady};
+
+// The answer to a job, and how many states a report has; none where the job is refused.
+pub struct Checked {
+    pub answer: Answer,
+    pub states: usize,
+}
+
+// A job that is turned back.
+fn refused(number: u64) -> Checked
+    ensures { λ r. ⌜ r ≡ turnedBack number ⌝ }
+{
+    Checked {
+        answer: Answer::Refused(number),
+        states: 0,
+    }
+}
+
+// Checks a job whose sheet passed its tests: those of its formula and of the lent lengths, then the report.
+fn check_formula(
+    sheet: Dimensions,
     moves: &[u8],
     labels: &[u8],
     formula: &[u8],
@@ -19,26 +41,58 @@ fn report(
     words: &mut [u64],
     vectors: &mut [u64],
     marks: &mut [u8],
-) -> u64
-    requires { ⌜ ReportAsked (job (now moves) (now labels) (now formula)) accepted (buffers (now lower) (now upper) (now verdicts) (now words) (now vectors) (now marks)) ⌝ }
-    ensures { λ r. ⌜ Filled (job (now (moves .entry)) (now (labels .entry)) (now (formula .entry))) (buffers (now (lower .entry)) (now (upper .entry)) (now (verdicts .entry)) (now (words .entry)) (now (vectors .entry)) (now (marks .entry))) (buffers (now (lower .exit)) (now (upper .exit)) (now (verdicts .exit)) (now (words .exit)) (now (vectors .exit)) (now (marks .exit))) r ⌝ }
+) -> Checked
+    requires { ⌜ SheetReady (job (now moves) (now labels) (now formula)) sheet ⌝ }
+    ensures finished { λ r. ⌜ Finished
+        (job (now (moves .entry)) (now (labels .entry)) (now (formula .entry)))
+        (buffers (now (lower .entry)) (now (upper .entry)) (now (verdicts .entry)) (now (words .entry)) (now (vectors .entry)) (now (marks .entry)))
+        (answerOf (r .answer))
+        (buffers (now (lower .exit)) (now (upper .exit)) (now (verdicts .exit)) (now (words .exit)) (now (vectors .exit)) (now (marks .exit))) ⌝ }
+    ensures counted { λ r. ⌜ r .states ≡ statesIn (outcome
+        (job (now (moves .entry)) (now (labels .entry)) (now (formula .entry)))
+        (lengths
+        (buffers (now (lower .entry)) (now (upper .entry)) (now (verdicts .entry)) (now (words .entry)) (now (vectors .entry)) (now (marks .entry))))) ⌝ }
 {
-    let n = accepted.states;
-    let m = accepted.moves;
-    let first = accepted.first;
-    let q = prepare::prepare(moves, labels, n, m, accepted.names, words, vectors);
-    let store = formula::build(formula, &labels[5..first]);
-    let root = accepted.nodes - 1;
-    decide::decide(store, root, 16, &words[..m], vectors, marks, 0, n, q);
-    let depth = conclude::conclude(store, root, vectors, marks, n, q, lower, upper, verdicts);
-    marks::clear_words(words, m);
-    marks::clear_words(vectors, 10 * n + 512);
-    marks::clear_bytes(marks, accepted.nodes * n);
-    depth
+    let names = labels::names_part(labels, sheet.first);
+    let read = refusals::test_formula(formula, names, sheet.names, sheet.q);
+    let tested = read.tested;
+    let nodes = read.nodes;
+    match tested {
+        Tested::Refused(number) => refused(number),
+        Tested::Passed => {
+            let lent = Lengths {
+                lower: lower.len(),
+                upper: upper.len(),
+                verdicts: verdicts.len(),
+                moves: words.len(),
+                vectors: vectors.len(),
+                marks: marks.len(),
+            };
+            if refusals::too_short(lent, sheet, nodes.count) {
+                return refused(15);
+            }
+            let depth = report::report(
+                sheet,
+                nodes,
+                moves,
+                labels,
+                lower,
+                upper,
+                verdicts,
+                words,
+                vectors,
+                marks,
+            );
+            Checked {
+                answer: Answer::Accepted(depth),
+                states: sheet.states,
+            }
+        }
+    }
 }
 
-// Checks a job. With n states and m move lines the caller lends n lower and upper numbers and verdict bytes, m move words,
-// 10 * n + 512 vector words, and n mark bytes for each node.
+// Checks a job. With n states and m move lines the caller lends n lower and upper numbers and verdict bytes, m move words, the vector words
+// that crates/vectors lays out, and n mark bytes for each node.
 //
 // Open, as in document 01, are the two ends of a `P` (numbers that keep the rules for ends), and the verdicts and later ends that follow
 // from them. All else is determined, for all texts and lengths: refused or accepted, the number or the depth, and every place of every
@@ -53,35 +107,35 @@ pub fn check(
     words: &mut [u64],
     vectors: &mut [u64],
     marks: &mut [u8],
-) -> Answer
-    ensures { λ r. ⌜ Finished (job (now (moves .entry)) (now (labels .entry)) (now (formula .entry))) (buffers (now (lower .entry)) (now (upper .entry)) (now (verdicts .entry)) (now (words .entry)) (now (vectors .entry)) (now (marks .entry))) (answerOf r) (buffers (now (lower .exit)) (now (upper .exit)) (now (verdicts .exit)) (now (words .exit)) (now (vectors .exit)) (now (marks .exit))) ⌝ }
+) -> Checked
+    ensures finished { λ r. ⌜ Finished
+        (job (now (moves .entry)) (now (labels .entry)) (now (formula .entry)))
+        (buffers (now (lower .entry)) (now (upper .entry)) (now (verdicts .entry)) (now (words .entry)) (now (vectors .entry)) (now (marks .entry)))
+        (answerOf (r .answer))
+        (buffers (now (lower .exit)) (now (upper .exit)) (now (verdicts .exit)) (now (words .exit)) (now (vectors .exit)) (now (marks .exit))) ⌝ }
+    ensures counted { λ r. ⌜ r .states ≡ statesIn (outcome
+        (job (now (moves .entry)) (now (labels .entry)) (now (formula .entry)))
+        (lengths
+        (buffers (now (lower .entry)) (now (upper .entry)) (now (verdicts .entry)) (now (words .entry)) (now (vectors .entry)) (now (marks .entry))))) ⌝ }
 {
-    match refusals::test(moves, labels, formula) {
-        Tested::Refused(number) => Answer::Refused(number),
-        Tested::Passed(accepted) => {
-            if refusals::too_short(
-                accepted,
-                lower.len(),
-                upper.len(),
-                verdicts.len(),
-                words.len(),
-                vectors.len(),
-                marks.len(),
-            ) {
-                return Answer::Refused(15);
-            }
-            Answer::Accepted(report(
-                accepted,
-                moves,
-                labels,
-                formula,
-                lower,
-                upper,
-                verdicts,
-                words,
-                vectors,
-                marks,
-            ))
-        }
+    if refusals::out_of_bytes(formula, limits::FORMULA_BYTES) {
+        return refused(1);
+    }
+    let sheet = refusals::test_sheet(moves, labels);
+    let tested = sheet.tested;
+    match tested {
+        Tested::Refused(number) => refused(number),
+        Tested::Passed => check_formula(
+            sheet.sheet,
+            moves,
+            labels,
+            formula,
+            lower,
+            upper,
+            verdicts,
+            words,
+            vectors,
+            marks,
+        ),
     }
 }

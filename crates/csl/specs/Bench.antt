@@ -5,11 +5,12 @@ use Prim.Native.String.{String}
 use mathlib.Core.Option.{some}
 use Rattle.csl.specs.Text.{bytes}
 use Rattle.csl.specs.Limits.{mostNodes}
-use Rattle.csl.specs.Formula.{Formula, always, label, negated, both, until, AtMost, AtLeast}
+use Rattle.csl.specs.Formula.{Formula, always, label, negated, both, chance, Path, until, AtMost, AtLeast}
 use Rattle.csl.specs.Fraction.{Fraction, frac, Same}
+use Rattle.csl.specs.Sheet.{sheetOf}
 use Rattle.csl.specs.Chain.{Chain, chainOf}
-use Rattle.csl.specs.Phase.{untilQuotient}
 use Rattle.csl.specs.Verdicts.{Verdict, Yes}
+use Rattle.csl.specs.Until.{untilQuotient}
 use Rattle.csl.specs.Backing.{AtEach}
 use Rattle.csl.specs.Report.{Reported, reportText, depthOf}
 use Rattle.csl.specs.Lent.{Buffers, needed}
@@ -61,7 +62,7 @@ negatedTimes (suc k) f = negated (negatedTimes k f)
 -- The starred values.
 pub record BenchValues : Type 0 where
   -- "The small sheet as printed above."
-  pub small-accepted : Accepts (small "P >= 1000000000 U 0 up dead\n") (until AtLeast 1000000000 0 up dead) 500 40
+  pub small-accepted : Accepts (small "P >= 1000000000 U 0 up dead\n") (chance AtLeast 1000000000 (until 0 up dead)) 500 40
   pub small-printed : Prints (small "P >= 1000000000 U 0 up dead\n")
       "state,lower,upper,depth,verdict\n0,0,0,40,no\n1,1000000000,1000000000,40,yes\n"
   -- "`tt`: yes twice, depth 0." "`& up ! dead`: yes, no."
@@ -72,21 +73,21 @@ pub record BenchValues : Type 0 where
   pub both-printed : Prints (small "& up ! dead\n")
       "state,lower,upper,depth,verdict\n0,1000000000,1000000000,0,yes\n1,0,0,0,no\n"
   -- "`P <= 10000000 U 8 up dead`: .. depth 42"
-  pub eight-hours : Accepts (small "P <= 10000000 U 8 up dead\n") (until AtMost 10000000 8 up dead) 500 42
+  pub eight-hours : Accepts (small "P <= 10000000 U 8 up dead\n") (chance AtMost 10000000 (until 8 up dead)) 500 42
   -- "q 64,000,000 and 1 hour: depth 168. 2 hours: 14."
-  pub full-load : Accepts (fast "P >= 5 U 1 up dead\n") (until AtLeast 5 1 up dead) 64000000 168
+  pub full-load : Accepts (fast "P >= 5 U 1 up dead\n") (chance AtLeast 5 (until 1 up dead)) 64000000 168
   pub over-load : Refuses (fast "P >= 5 U 2 up dead\n") 14
   -- "No moves, 8,760 hours: q = 0, depth 40, ends 0 or 1,000,000,000."
-  pub no-moves : Accepts (still "P >= 5 U 8760 up dead\n") (until AtLeast 5 8760 up dead) 0 40
+  pub no-moves : Accepts (still "P >= 5 U 8760 up dead\n") (chance AtLeast 5 (until 8760 up dead)) 0 40
   pub no-moves-printed : Prints (still "P >= 5 U 8760 up dead\n")
       "state,lower,upper,depth,verdict\n0,0,0,40,no\n1,1000000000,1000000000,40,yes\n"
   -- "15 `!` before `up`: accepted. 16: 11."
   pub fifteen : Accepts (small "! ! ! ! ! ! ! ! ! ! ! ! ! ! ! up\n") (negatedTimes 15 up) 500 0
   pub sixteen : Refuses (small "! ! ! ! ! ! ! ! ! ! ! ! ! ! ! ! up\n") 11
-  -- "`P >= 0 U 1 up dead`: yes everywhere", and so on every chain, for all hours and operands
-  pub at-least-0-accepted : Accepts (small "P >= 0 U 1 up dead\n") (until AtLeast 0 1 up dead) 500 42
-  pub at-least-0 : (c : Chain) (t : ℕ) (a b : Formula) (lower upper : ℕ → ℕ) (v : ℕ → Verdict)
-      → Reported c (until AtLeast 0 t a b) lower upper v → AtEach c λ s. v s ≡ Yes
+  -- "`P >= 0 U 1 up dead`: yes everywhere", and so on every chain, for all paths
+  pub at-least-0-accepted : Accepts (small "P >= 0 U 1 up dead\n") (chance AtLeast 0 (until 1 up dead)) 500 42
+  pub at-least-0 : (c : Chain) (w : Path) (lower upper : ℕ → ℕ) (v : ℕ → Verdict)
+      → Reported c (chance AtLeast 0 w) lower upper v → AtEach c λ s. v s ≡ Yes
 
 -- "`P <= 10000000 U 8 up dead`: .. lower ≤ 3,992,010, upper ≥ 3,992,011, width ≤ 168, yes at state 0", of every report
 pub record EightHours (lower upper : ℕ → ℕ) (v : ℕ → Verdict) : Type 0 where
@@ -97,12 +98,12 @@ pub record EightHours (lower upper : ℕ → ℕ) (v : ℕ → Verdict) : Type 0
 
 -- Beside the paper's values: a sheet of three states with unequal exit rates, and its quotients for `U 5000 up dead` at depth 9, from the
 -- second reckoning in big fractions.
-abbrev pub trialSheet : Chain
-trialSheet =
-    chainOf (bytes "from,to,rate\n0,1,300\n0,2,200\n1,0,100\n2,1,50\n") (bytes "state,up,dead\n0,1,0\n1,1,0\n2,0,1\n")
+abbrev pub trialChain : Chain
+trialChain =
+    chainOf (sheetOf (bytes "from,to,rate\n0,1,300\n0,2,200\n1,0,100\n2,1,50\n") (bytes "state,up,dead\n0,1,0\n1,1,0\n2,0,1\n"))
 
 abbrev pub trialQuotient : ℕ → Fraction
-trialQuotient s = untilQuotient trialSheet 5000 (trialSheet .mark (bytes "up")) (trialSheet .mark (bytes "dead")) s 9
+trialQuotient s = untilQuotient trialChain 5000 (trialChain .mark (bytes "up")) (trialChain .mark (bytes "dead")) s 9
 
 pub record TrialQuotients : Type 0 where
   pub state-0 : Same (trialQuotient 0) (frac 914845826 2262813335)

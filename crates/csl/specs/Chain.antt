@@ -4,8 +4,9 @@ use mathlib.Core.Bool.{Bool, cond}
 use lib.Dec.{eqb}
 use Rattle.csl.specs.Text.{Text}
 use Rattle.csl.specs.Limits.{rateHours, spareSteps}
-use Rattle.csl.specs.Labels.{statesOf, markOf}
-use Rattle.csl.specs.Moves.{rateIn, movesOf}
+use Rattle.csl.specs.Labels.{placeOf}
+use Rattle.csl.specs.Moves.{rateIn}
+use Rattle.csl.specs.Sheet.{Sheet}
 use Rattle.csl.specs.Fraction.{Fraction, frac, roundUp}
 
 -- how many states; the rate from one state to another; whether a label holds at a state
@@ -15,8 +16,9 @@ pub record Chain : Type 0 where
   pub mark : Text → ℕ → Bool
 
 -- the chain of a sheet
-unfoldable pub chainOf : Text → Text → Chain
-chainOf moves labels = record { states = statesOf labels; rate = rateIn (movesOf moves); mark = markOf labels }
+unfoldable pub chainOf : Sheet → Chain
+chainOf sheet =
+    record { states = sheet .states; rate = rateIn (sheet .moves); mark = λ w s. sheet .marked s (placeOf (sheet .names) w) }
 
 -- the sum, and the greatest, of f 0 to f (n - 1)
 unfoldable pub sumTo : (ℕ → ℕ) → ℕ → ℕ

@@ -11,7 +11,7 @@ use Rattle.csl.specs.Limits.{formulaDigits}
 use Rattle.csl.specs.Number.{isNumber, valueOf}
 use Rattle.csl.specs.Line.{space, parts, linesOf, firstLine, isEnded}
 use Rattle.csl.specs.Labels.{isWord}
-use Rattle.csl.specs.Formula.{Formula, always, label, negated, both, until, Comparison, Less, AtMost, AtLeast, More}
+use Rattle.csl.specs.Formula.{Formula, always, label, negated, both, chance, until, Comparison, Less, AtMost, AtLeast, More}
 
 unfoldable pub tokensOf : Text → List Text
 tokensOf text = parts space (firstLine text)
@@ -55,18 +55,18 @@ pair read make ts = andThen (read ts) λ a more. andThen (read more) λ b rest. 
 
 -- "A path formula is `U`, whole hours and two state formulas."
 unfoldable pub path : Reader → Comparison → ℕ → Reader
-path read r p ts = onWord (bytes "U") ts λ more. onNumber more λ t rest. pair read (until r p t) rest
+path read r p ts = onWord (bytes "U") ts λ more. onNumber more λ t rest. pair read (λ a b. chance r p (until t a b)) rest
 
 -- how a state formula begins
 pub data Head : Type 0 where
-  truth name bang ampersand chance other : Head
+  truth name bang ampersand chances other : Head
 
 -- "A word of 1 to 12 letters a to z other than `tt` counts as a label name here."
 unfoldable pub headOf : Text → Head
 headOf w =
     cond (same w (bytes "tt")) truth
     (cond (isWord w) name
-    (cond (same w (bytes "!")) bang (cond (same w (bytes "&")) ampersand (cond (same w (bytes "P")) chance other))))
+    (cond (same w (bytes "!")) bang (cond (same w (bytes "&")) ampersand (cond (same w (bytes "P")) chances other))))
 
 -- "A state formula is `tt`, a label name, `!` and a state formula, `&` and two state formulas, or `P`, a comparison, a threshold and a
 -- path formula."
@@ -75,7 +75,7 @@ state read w truth ts = found always ts
 state read w name ts = found (label w) ts
 state read w bang ts = andThen (read ts) λ a rest. found (negated a) rest
 state read w ampersand ts = pair read both ts
-state read w chance ts = onComparison ts λ r more. onNumber more λ p rest. path read r p rest
+state read w chances ts = onComparison ts λ r more. onNumber more λ p rest. path read r p rest
 state read w other ts = nothing
 
 -- a state formula at the head of the tokens; each reader within it has fewer tokens, so their number is steps enough
@@ -105,4 +105,4 @@ pub data Spells : Formula → List Text → Type 0 where
   spells-until : {a b : Formula} {s t : List Text} (sign threshold hours : Text) (r : Comparison)
       → comparisonOf sign ≡ some r → isNumber formulaDigits threshold ≡ true → isNumber formulaDigits hours ≡ true
       → Spells a s → Spells b t
-      → Spells (until r (valueOf threshold) (valueOf hours) a b) (bytes "P" ∷ sign ∷ threshold ∷ bytes "U" ∷ hours ∷ s ++ t)
+      → Spells (chance r (valueOf threshold) (until (valueOf hours) a b)) (bytes "P" ∷ sign ∷ threshold ∷ bytes "U" ∷ hours ∷ s ++ t)

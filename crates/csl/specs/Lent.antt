@@ -6,6 +6,7 @@ use mathlib.Core.List.{List, [], _∷_, _++_}
 use lib.ListN.{length, drop, replicate}
 use lib.Dec.{ltb}
 use Rattle.csl.specs.Text.{any}
+use Rattle.csl.specs.Limits.{vectorPlaces, vectorSpare}
 use Rattle.csl.specs.Verdicts.{Verdict, No, Yes, Undecided}
 
 -- what each buffer holds, or how long it is
@@ -19,7 +20,7 @@ pub record Buffers (A : Type 0) : Type 0 where
 
 -- n states, m move lines, k nodes
 abbrev pub needed : ℕ → ℕ → ℕ → Buffers ℕ
-needed n m k = record { lower = n; upper = n; verdicts = n; moves = m; vectors = 10 * n + 512; marks = k * n }
+needed n m k = record { lower = n; upper = n; verdicts = n; moves = m; vectors = vectorPlaces * n + vectorSpare; marks = k * n }
 
 abbrev pub lengths : Buffers (List ℕ) → Buffers ℕ
 lengths b =

@@ -5,6 +5,7 @@ pub mod Number
 pub mod Line
 pub mod Labels
 pub mod Moves
+pub mod Sheet
 pub mod Formula
 pub mod Grammar
 pub mod Fraction
@@ -12,6 +13,9 @@ pub mod Chain
 pub mod Phase
 pub mod Limit
 pub mod Verdicts
+pub mod Meaning
+pub mod Until
+pub mod Path
 pub mod Ends
 pub mod Backing
 pub mod Truth

@@ -1,11 +1,19 @@
--- The limit meaning of the four comparisons, of a sequence of quotients against p billionths. What the paper takes away on one side stands
--- added on the other. Assumes nothing.
+-- What the probability of a path formula is at one state, and the meaning of the four comparisons of it with p billionths. What the paper
+-- takes away on one side stands added on the other. Assumes nothing.
 use Prim.Native.Nat.{ℕ, _≤_}
 use Rattle.csl.specs.Formula.{Comparison, Less, AtMost, AtLeast, More}
 use Rattle.csl.specs.Fraction.{Fraction, Below, plus, billionths, part}
 
+pub data Value : Type 0 where
+  -- the limit of quotients x; d is their depth D
+  limit : (d : ℕ) → (x : ℕ → Fraction) → Value
+
+-- "all quotients from D on"
+abbrev pub Each : (Fraction → Type 0) → Value → Type 0
+Each P (limit d x) = (n : ℕ) → d ≤ n → P (x n)
+
 -- "there is a depth from which all quotients are .."
-pub record FromSome (P : Fraction → Type 0) (x : ℕ → Fraction) : Type 0 where
+pub record FromSome (x : ℕ → Fraction) (P : Fraction → Type 0) : Type 0 where
   pub begin : ℕ
   pub all : (n : ℕ) → begin ≤ n → P (x n)
 
@@ -20,12 +28,15 @@ pub record ForSome (P : ℕ → Type 0) : Type 0 where
   pub holds : P m
 
 -- "At least p": for each m there is a depth from which all quotients are at least p − 1/m. "Less than p": for some m there is a depth from
--- which all are at most p − 1/m. "'At most' and 'more than' mirror these."
-abbrev pub LimitIs : Comparison → ℕ → (ℕ → Fraction) → Type 0
-LimitIs AtLeast p x = ForEach λ m. FromSome (λ y. Below (billionths p) (plus y (part m))) x
-LimitIs Less p x = ForSome λ m. FromSome (λ y. Below (plus y (part m)) (billionths p)) x
-LimitIs AtMost p x = ForEach λ m. FromSome (λ y. Below y (plus (billionths p) (part m))) x
-LimitIs More p x = ForSome λ m. FromSome (λ y. Below (plus (billionths p) (part m)) y) x
+-- which all are at most p − 1/m. "'At most' and 'more than' mirror these." In P says that from some depth all quotients are P.
+abbrev pub LimitIs : Comparison → ℕ → ((Fraction → Type 0) → Type 0) → Type 0
+LimitIs AtLeast p In = ForEach λ m. In λ y. Below (billionths p) (plus y (part m))
+LimitIs Less p In = ForSome λ m. In λ y. Below (plus y (part m)) (billionths p)
+LimitIs AtMost p In = ForEach λ m. In λ y. Below y (plus (billionths p) (part m))
+LimitIs More p In = ForSome λ m. In λ y. Below (plus (billionths p) (part m)) y
+
+abbrev pub Holds : Comparison → ℕ → Value → Type 0
+Holds r p (limit d x) = LimitIs r p (FromSome x)
 
 -- the opposite comparison
 abbrev pub opposite : Comparison → Comparison

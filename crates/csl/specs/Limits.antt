@@ -65,3 +65,10 @@ spareSteps = 40
 -- "at most 4 × D from each of them"; "the two ends differ by at most 4 × D"
 abbrev pub widthFactor : ℕ
 widthFactor = 4
+
+-- "vector words (64 bits) of 10 × n + 512"
+abbrev pub vectorPlaces : ℕ
+vectorPlaces = 10
+
+abbrev pub vectorSpare : ℕ
+vectorSpare = 512

@@ -1,9 +1,9 @@
--- Step values, weights and quotients: of a phase, and of until, which is one. Assumes nothing.
+-- Step values, weights and quotients of a phase. Assumes nothing.
 use Prim.Native.Nat.{ℕ, zero, suc, _+_, _*_, _-_}
-use mathlib.Core.Bool.{Bool, true, false, cond, not, _||_}
+use mathlib.Core.Bool.{Bool, true, false, cond}
 use lib.Dec.{eqb}
 use Rattle.csl.specs.Fraction.{Fraction, frac, times, over, sumUp}
-use Rattle.csl.specs.Chain.{Chain, sumTo, away, exitRate, topRate, load}
+use Rattle.csl.specs.Chain.{Chain, sumTo, away, exitRate, topRate}
 
 -- What the steps start from and hold to: each state's value at step 0, in parts of `whole`; the states whose value is 1 at every later
 -- step; those where it is 0.
@@ -15,12 +15,6 @@ pub record Phase : Type 0 where
 
 abbrev pub bit : Bool → ℕ
 bit b = cond b 1 0
-
--- Until: "At step 0 it is 1 where the second operand holds, else 0. At each later step it is 1 where the second operand holds and 0 where
--- neither holds."
-abbrev pub untilPhase : (ℕ → Bool) → (ℕ → Bool) → Phase
-untilPhase first second =
-    record { whole = 1; start = λ s. bit (second s); one = second; nil = λ s. not (first s || second s) }
 
 -- "take the rate to each other state times that state's value one step earlier, add these up, add (q − own exit rate) times the own
 -- earlier value": v are the values one step earlier
@@ -56,7 +50,3 @@ weight l (suc k) = over (times (weight l k) l) (frac (suc k) 1)
 -- "The quotient of a state at depth N is the sum of weight × step value over steps 0 to N, divided by the sum of those weights."
 unfoldable pub quotient : Fraction → (ℕ → Fraction) → ℕ → Fraction
 quotient l v n = over (sumUp (λ k. times (weight l k) (v k)) n) (sumUp (weight l) n)
-
--- the quotients of state s for until over t hours, where `first` and `second` say where the operands hold
-abbrev pub untilQuotient : Chain → ℕ → (ℕ → Bool) → (ℕ → Bool) → ℕ → ℕ → Fraction
-untilQuotient c t first second s = quotient (load c t) (stepValue c (untilPhase first second) s)

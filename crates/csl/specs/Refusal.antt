@@ -9,10 +9,11 @@ use lib.Dec.{leb, ltb, eqb}
 use Rattle.csl.specs.Text.{Text, among, any}
 use Rattle.csl.specs.Limits.{mostStates, mostMoves, mostRate, formulaBytes, sheetBytes, mostNodes, mostLevels, mostThreshold, mostHours, mostRateHours}
 use Rattle.csl.specs.Line.{laterLines}
-use Rattle.csl.specs.Labels.{namesOf, labelsHead, labelsLayout, inTurn, statesOf}
+use Rattle.csl.specs.Labels.{labelsHead, labelsLayout, inTurn, statesOf}
 use Rattle.csl.specs.Moves.{Move, movesHead, movesLayout, movesOf, isRising, ratesOut}
-use Rattle.csl.specs.Formula.{Formula, always, nodes, levels, labelsPass, untilsPass}
+use Rattle.csl.specs.Formula.{Formula, always, PathOf, nodes, levels, labelsPass, timesPass, phasesPass, pathsPass}
 use Rattle.csl.specs.Grammar.{readFormula}
+use Rattle.csl.specs.Sheet.{Sheet, sheetOf}
 use Rattle.csl.specs.Chain.{Chain, chainOf, topRate}
 use Rattle.csl.specs.Report.{depthOf}
 use Rattle.csl.specs.Lent.{Buffers, needed, isShort}
@@ -22,15 +23,18 @@ pub record Job : Type 0 where
   pub labels : Text
   pub formula : Text
 
--- what a job that passed the test for it has: its move lines, chain and formula
-abbrev pub jobMoves : Job → List Move
-jobMoves j = movesOf (j .moves)
+-- what a job has that passed the tests for it: its sheet, chain and formula
+abbrev pub jobSheet : Job → Sheet
+jobSheet j = sheetOf (j .moves) (j .labels)
 
 abbrev pub jobStates : Job → ℕ
-jobStates j = statesOf (j .labels)
+jobStates j = jobSheet j .states
+
+abbrev pub jobMoves : Job → List Move
+jobMoves j = jobSheet j .moves
 
 abbrev pub jobChain : Job → Chain
-jobChain j = chainOf (j .moves) (j .labels)
+jobChain j = chainOf (jobSheet j)
 
 unfoldable pub formulaFrom : Option Formula → Formula
 formulaFrom none = always
@@ -40,67 +44,67 @@ abbrev pub jobFormula : Job → Formula
 jobFormula j = formulaFrom (readFormula (j .formula))
 
 -- 1: "a text empty or over its byte limit"
-abbrev pub badLength : ℕ → Text → Bool
-badLength most t = eqb (length t) 0 || ltb most (length t)
-
-unfoldable pub outOfBytes : Job → Bool
-outOfBytes j = badLength sheetBytes (j .moves) || badLength sheetBytes (j .labels) || badLength formulaBytes (j .formula)
+abbrev pub outOfBytes : ℕ → Text → Bool
+outOfBytes most t = eqb (length t) 0 || ltb most (length t)
 
 -- 2: "a line after the first breaks its layout: .. or the last line feed is missing in either text"
-unfoldable pub brokenLayout : Job → Bool
-brokenLayout j = not (movesLayout (j .moves) && labelsLayout (j .labels))
+unfoldable pub brokenLayout : (moves labels : Text) → Bool
+brokenLayout moves labels = not (movesLayout moves && labelsLayout labels)
 
 -- 3: "a first line, or a name in it, is wrong; over 16 names"
-unfoldable pub wrongFirstLine : Job → Bool
-wrongFirstLine j = not (movesHead (j .moves) && labelsHead (j .labels))
+unfoldable pub wrongFirstLine : (moves labels : Text) → Bool
+wrongFirstLine moves labels = not (movesHead moves && labelsHead labels)
 
 -- 4: "no state, over 512, or numbers out of turn"
-unfoldable pub wrongStates : Job → Bool
-wrongStates j = eqb (jobStates j) 0 || ltb mostStates (jobStates j) || not (inTurn 0 (laterLines (j .labels)))
+unfoldable pub wrongStates : Text → Bool
+wrongStates labels = eqb (statesOf labels) 0 || ltb mostStates (statesOf labels) || not (inTurn 0 (laterLines labels))
 
 -- 5: "over 4,096 moves"
-unfoldable pub manyMoves : Job → Bool
-manyMoves j = ltb mostMoves (length (jobMoves j))
+unfoldable pub manyMoves : List Move → Bool
+manyMoves ms = ltb mostMoves (length ms)
 
 -- 6: "a move names a state that labels lack"
-unfoldable pub strangeState : Job → Bool
-strangeState j = any (λ m. leb (jobStates j) (m .from) || leb (jobStates j) (m .to)) (jobMoves j)
+abbrev pub strangeState : ℕ → List Move → Bool
+strangeState states ms = any (λ m. leb states (m .from) || leb states (m .to)) ms
 
 -- 7: "a move to its own state"
-unfoldable pub ownState : Job → Bool
-ownState j = any (λ m. eqb (m .from) (m .to)) (jobMoves j)
+abbrev pub ownState : List Move → Bool
+ownState ms = any (λ m. eqb (m .from) (m .to)) ms
 
 -- 8: "moves not rising, or a pair twice"
-unfoldable pub notRising : Job → Bool
-notRising j = not (isRising (jobMoves j))
+unfoldable pub notRising : List Move → Bool
+notRising ms = not (isRising ms)
 
 -- 9: "rate 0, or a state's rates over 64,000,000"
-unfoldable pub wrongRate : Job → Bool
-wrongRate j = any (λ m. eqb (m .rate) 0 || ltb mostRate (ratesOut (jobMoves j) (m .from))) (jobMoves j)
+abbrev pub wrongRate : List Move → Bool
+wrongRate ms = any (λ m. eqb (m .rate) 0 || ltb mostRate (ratesOut ms (m .from))) ms
 
 -- 10: "formula breaks the grammar"
 unfoldable pub isMissing : Option Formula → Bool
 isMissing none = true
 isMissing (some f) = false
 
-unfoldable pub brokenGrammar : Job → Bool
-brokenGrammar j = isMissing (readFormula (j .formula))
-
 -- 11: "over 64 nodes or 16 deep"
-unfoldable pub largeFormula : Job → Bool
-largeFormula j = ltb mostNodes (nodes (jobFormula j)) || ltb mostLevels (levels (jobFormula j))
+unfoldable pub largeFormula : Formula → Bool
+largeFormula f = ltb mostNodes (nodes f) || ltb mostLevels (levels f)
 
 -- 12: "a label name not in the first line"
-unfoldable pub strangeLabel : Job → Bool
-strangeLabel j = not (labelsPass (among (namesOf (j .labels))) (jobFormula j))
+unfoldable pub strangeLabel : List Text → Formula → Bool
+strangeLabel names f = not (labelsPass (among names) f)
 
 -- 13: "threshold over 1,000,000,000 or hours over 8,760"
-unfoldable pub wrongBound : Job → Bool
-wrongBound j = not (untilsPass (λ p t. leb p mostThreshold && leb t mostHours) (jobFormula j))
+abbrev pub inBounds : ℕ → PathOf Formula → Bool
+inBounds p o = leb p mostThreshold && timesPass (λ t. leb t mostHours) o
+
+unfoldable pub wrongBound : Formula → Bool
+wrongBound f = not (pathsPass inBounds f)
 
 -- 14: "q × t over 64,000,000 for some until"
-unfoldable pub highLoad : Job → Bool
-highLoad j = not (untilsPass (λ p t. leb (topRate (jobChain j) * t) mostRateHours) (jobFormula j))
+abbrev pub inLoad : ℕ → ℕ → PathOf Formula → Bool
+inLoad q p o = phasesPass (λ t. leb (q * t) mostRateHours) o
+
+unfoldable pub highLoad : ℕ → Formula → Bool
+highLoad q f = not (pathsPass (inLoad q) f)
 
 -- 15: "a lent buffer too short"
 unfoldable pub shortBuffer : Job → Buffers ℕ → Bool
@@ -114,12 +118,25 @@ pub record Test : Type 0 where
 abbrev pub test : ℕ → Bool → Test
 test n b = record { number = n; holds = b }
 
--- the tests of the three texts, in their order
+-- the tests of a sheet's two texts, in their order
+unfoldable pub sheetTests : (moves labels : Text) → List Test
+sheetTests moves labels =
+    test 1 (outOfBytes sheetBytes moves || outOfBytes sheetBytes labels) ∷ test 2 (brokenLayout moves labels)
+    ∷ test 3 (wrongFirstLine moves labels) ∷ test 4 (wrongStates labels) ∷ test 5 (manyMoves (movesOf moves))
+    ∷ test 6 (strangeState (statesOf labels) (movesOf moves)) ∷ test 7 (ownState (movesOf moves)) ∷ test 8 (notRising (movesOf moves))
+    ∷ test 9 (wrongRate (movesOf moves)) ∷ []
+
+-- those of a formula, if its text spells one, over a sheet that passed and has these label names and this uniformisation rate
+unfoldable pub formulaTests : List Text → ℕ → Option Formula → List Test
+formulaTests names q o =
+    test 10 (isMissing o) ∷ test 11 (largeFormula (formulaFrom o)) ∷ test 12 (strangeLabel names (formulaFrom o))
+    ∷ test 13 (wrongBound (formulaFrom o)) ∷ test 14 (highLoad q (formulaFrom o)) ∷ []
+
+-- those of a job's three texts: 1 is put to all three of them first
 unfoldable pub textTests : Job → List Test
 textTests j =
-    test 1 (outOfBytes j) ∷ test 2 (brokenLayout j) ∷ test 3 (wrongFirstLine j) ∷ test 4 (wrongStates j) ∷ test 5 (manyMoves j)
-    ∷ test 6 (strangeState j) ∷ test 7 (ownState j) ∷ test 8 (notRising j) ∷ test 9 (wrongRate j) ∷ test 10 (brokenGrammar j)
-    ∷ test 11 (largeFormula j) ∷ test 12 (strangeLabel j) ∷ test 13 (wrongBound j) ∷ test 14 (highLoad j) ∷ []
+    test 1 (outOfBytes formulaBytes (j .formula)) ∷ sheetTests (j .moves) (j .labels)
+    ++ formulaTests (jobSheet j .names) (topRate (jobChain j)) (readFormula (j .formula))
 
 -- the number of the first that holds
 unfoldable pub firstOf : List Test → Option ℕ

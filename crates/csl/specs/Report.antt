@@ -7,10 +7,11 @@ use lib.Dec.{ltb}
 use Rattle.csl.specs.Text.{Text, bytes}
 use Rattle.csl.specs.Limits.{billion}
 use Rattle.csl.specs.Line.{lineFeed, comma}
-use Rattle.csl.specs.Formula.{Formula, always, label, negated, both, until}
-use Rattle.csl.specs.Chain.{Chain, depth}
+use Rattle.csl.specs.Formula.{Formula, always, label, negated, both, chance, pathOf}
+use Rattle.csl.specs.Chain.{Chain}
 use Rattle.csl.specs.Verdicts.{Verdict, No, Yes, Undecided}
-use Rattle.csl.specs.Backing.{AtEach, Backed, UntilBacked}
+use Rattle.csl.specs.Path.{meaning}
+use Rattle.csl.specs.Backing.{AtEach, Backed, PathBacked, ChanceKeeps}
 
 -- "the depth D of the outermost until"; "For an outermost node other than `P`, the depth is 0 .."
 unfoldable pub depthOf : Chain → Formula → ℕ
@@ -18,7 +19,7 @@ depthOf c always = 0
 depthOf c (label w) = 0
 depthOf c (negated a) = 0
 depthOf c (both a b) = 0
-depthOf c (until r p t a b) = depth c t
+depthOf c (chance r p w) = meaning c (pathOf w) .depth
 
 -- ".. and the ends are 1,000,000,000 twice for yes, 0 twice for no, 0 and 1,000,000,000 for undecided"
 abbrev pub lowerOf : Verdict → ℕ
@@ -42,16 +43,15 @@ Reported c always lower upper v = PlainReport c always lower upper v
 Reported c (label w) lower upper v = PlainReport c (label w) lower upper v
 Reported c (negated a) lower upper v = PlainReport c (negated a) lower upper v
 Reported c (both a b) lower upper v = PlainReport c (both a b) lower upper v
-Reported c (until r p t a b) lower upper v = UntilBacked c r p t (Backed c a) (Backed c b) lower upper v
+Reported c (chance r p w) lower upper v = PathBacked c w (ChanceKeeps c r p lower upper v)
 
 -- the backing that a report has: of a `P`, its own ends with its operands' backings
 unfoldable pub backingOf : (c : Chain) (f : Formula) (lower upper : ℕ → ℕ) (v : ℕ → Verdict) → Reported c f lower upper v → Backed c f v
-unfolding Backed
 backingOf c always lower upper v k = k .backed
-backingOf c (label w) lower upper v k = k .backed
+backingOf c (label name) lower upper v k = k .backed
 backingOf c (negated a) lower upper v k = k .backed
 backingOf c (both a b) lower upper v k = k .backed
-backingOf c (until r p t a b) lower upper v k = record { lower = lower; upper = upper; keeps = k }
+backingOf c (chance r p w) lower upper v k = record { lower = lower; upper = upper; keeps = k }
 
 -- the last decimal digit of a number
 abbrev pub lastDigit : ℕ → Text

@@ -9,14 +9,16 @@ use lib.ListN.{length}
 use native.Mathlib.Omega.{arith}
 use Rattle.csl.specs.Text.{Text}
 use Rattle.csl.specs.Limits.{widthFactor, spareSteps}
-use Rattle.csl.specs.Formula.{Formula, until, Comparison, AtMost, AtLeast, More}
-use Rattle.csl.specs.Fraction.{frac, IsFraction, Below, times, sumUp, billionths}
+use Rattle.csl.specs.Formula.{Formula, chance, Path, until, PathOf, untilOf, Comparison, AtMost, AtLeast, More}
 use Rattle.csl.specs.Grammar.{readState, whole, Spells}
+use Rattle.csl.specs.Fraction.{frac, IsFraction, Below, times, sumUp, billionths}
 use Rattle.csl.specs.Chain.{Chain, load, depth}
-use Rattle.csl.specs.Phase.{untilPhase, divisor, stepTop, weight, untilQuotient}
+use Rattle.csl.specs.Phase.{divisor, stepTop, weight}
+use Rattle.csl.specs.Limit.{Each}
 use Rattle.csl.specs.Verdicts.{Verdict, Yes, Reading, asNo, Sides}
-use Rattle.csl.specs.Ends.{AllDecided}
-use Rattle.csl.specs.Backing.{AtEach, Backed, NothingUndecided, SidesThroughout}
+use Rattle.csl.specs.Until.{untilPhase, untilQuotient}
+use Rattle.csl.specs.Path.{meaning, valueAt, AllDecided, DecidedIn, Reads, reads-until}
+use Rattle.csl.specs.Backing.{AtEach, Backed, ChanceKeeps, operandsOf, NothingUndecided, SidesThroughout}
 use Rattle.csl.specs.Truth.{Obeys, Throughout}
 use Rattle.csl.specs.Report.{Reported, backingOf}
 use Rattle.csl.specs.Refusal.{Job, jobChain}
@@ -26,10 +28,10 @@ use Rattle.csl.specs.Laws.Fraction.{under-below}
 use Rattle.csl.specs.Laws.Steps.{step-le, step-rises, divisor-some}
 use Rattle.csl.specs.Laws.Quotient.{Implies, until-starts, until-under, until-is, until-le, until-rises, weights-some}
 use Rattle.csl.specs.Laws.Tail.{half-weight, light-from, after}
-use Rattle.csl.specs.Laws.Ends.{ordered}
+use Rattle.csl.specs.Laws.Enclosure.{Encloses, encloses, ordered-ends}
 use Rattle.csl.specs.Laws.Sides.{one-verdict}
-use Rattle.csl.specs.Laws.Enclosure.{Encloses, encloses}
 use Rattle.csl.specs.Laws.Settled.{tables-agree, verdicts-obey}
+use Rattle.csl.specs.Laws.Backing.{kept-operands}
 use Rattle.csl.specs.Laws.Throughout.{throughout, sides, sides-throughout, Together, backings-agree}
 use Rattle.csl.specs.Laws.Grammar.{read-if-spelled, spelled-if-read}
 use Rattle.csl.specs.Laws.Bench as bench
@@ -38,31 +40,49 @@ use Rattle.csl.specs.Laws.EightHours as hours
 use Rattle.csl.specs.Laws.Examples as examples
 
 -- T1. Demand 3: "the outermost until's quotient at every depth from D on, for every reading, lies in the interval; width at most 4 × D
--- billionths where no operand state is undecided". k is any backing of the report; x and y read its operands.
+-- billionths where no operand state is undecided". Of any path w; k is any backing of the report, and x any reading of its operands.
+module _ (c : Chain) (r : Comparison) (p : ℕ) (w : Path) (lower upper : ℕ → ℕ) (v : ℕ → Verdict)
+    (k : Reported c (chance r p w) lower upper v) where
+  -- the verdicts of the operands in that backing
+  abbrev pub operands : PathOf (ℕ → Verdict)
+  operands = operandsOf c w (ChanceKeeps c r p lower upper v) k
+
+  kept : ChanceKeeps c r p lower upper v operands
+  kept = kept-operands c w (ChanceKeeps c r p lower upper v) k
+
+  pub values-lie-in-the-interval : (x : PathOf (ℕ → Bool)) → Reads (c .states) operands x → (s : ℕ) → s < c .states
+      → Each (λ y. Below (billionths (lower s)) y) (valueAt c x s) × Each (λ y. Below y (billionths (upper s))) (valueAt c x s)
+  values-lie-in-the-interval x i s l =
+      let e : Encloses c (lower s) (upper s) x s = encloses c operands x s (lower s) (upper s) l (kept .ends s l) i in (e .below, e .above)
+
+  pub intervals-are-narrow : DecidedIn c operands → (s : ℕ) → s < c .states → upper s ≤ lower s + meaning c operands .slack
+  intervals-are-narrow i s l = kept .ends s l .width i
+
+  -- Demand 2: yes when the interval lies wholly on the threshold's true side, no when wholly on the false side, else undecided
+  pub verdicts-follow-from-the-intervals : (s : ℕ) → s < c .states → Sides (v s) r p (lower s) (upper s)
+  verdicts-follow-from-the-intervals s l = sides c r p lower upper v operands kept s l
+
+  -- the one verdict that this rule allows
+  pub intervals-allow-one-verdict : (x : Verdict) (s : ℕ) → s < c .states → Sides x r p (lower s) (upper s) → v s ≡ x
+  intervals-allow-one-verdict x s l h =
+      one-verdict p (lower s) (upper s) (ordered-ends c operands s (lower s) (upper s) l (kept .ends s l)) r (v s) x
+      (verdicts-follow-from-the-intervals s l) h
+
+-- The same of an until, whose quotients and operands can be named.
 module _ (c : Chain) (r : Comparison) (p t : ℕ) (a b : Formula) (lower upper : ℕ → ℕ) (v : ℕ → Verdict)
-    (k : Reported c (until r p t a b) lower upper v) where
+    (k : Reported c (chance r p (until t a b)) lower upper v) where
   pub quotients-lie-in-the-interval : (x y : ℕ → Bool) → Reading (c .states) (k .first) x → Reading (c .states) (k .second) y
       → (s n : ℕ) → s < c .states → depth c t ≤ n
       → Below (billionths (lower s)) (untilQuotient c t x y s n) × Below (untilQuotient c t x y s n) (billionths (upper s))
   quotients-lie-in-the-interval x y i j s n l d =
-      let e : Encloses c t (lower s) (upper s) x y s = encloses c t (k .first) (k .second) x y s (lower s) (upper s) l (k .ends s l) i j in
-      (e .below n d, e .above n d)
+      let h = values-lie-in-the-interval c r p (until t a b) lower upper v k (untilOf t x y) (reads-until t (k .first) (k .second) x y i j) s l in
+      (h .0 n d, h .1 n d)
 
-  pub intervals-are-narrow : AllDecided c (k .first) → AllDecided c (k .second) → (s : ℕ) → s < c .states
+  pub intervals-of-an-until-are-narrow : AllDecided c (k .first) → AllDecided c (k .second) → (s : ℕ) → s < c .states
       → upper s ≤ lower s + widthFactor * depth c t
-  intervals-are-narrow i j s l = k .ends s l .width i j
+  intervals-of-an-until-are-narrow i j s l = intervals-are-narrow c r p (until t a b) lower upper v k (i, j) s l
 
-  -- Demand 2: yes when the interval lies wholly on the threshold's true side, no when wholly on the false side, else undecided
-  pub verdicts-follow-from-the-intervals : (s : ℕ) → s < c .states → Sides (v s) r p (lower s) (upper s)
-  verdicts-follow-from-the-intervals s l = sides c r p t a b lower upper v k s l
-
-  -- the one verdict that this rule allows
-  pub intervals-allow-one-verdict : (w : Verdict) (s : ℕ) → s < c .states → Sides w r p (lower s) (upper s) → v s ≡ w
-  intervals-allow-one-verdict w s l h =
-      one-verdict p (lower s) (upper s) (ordered c t (k .first) (k .second) s (lower s) (upper s) l (k .ends s l)) r (v s) w
-      (verdicts-follow-from-the-intervals s l) h
-
--- and so at every `P` of a backing
+-- Demand 2 at every `P` of a backing, inner ones too
 pub verdicts-follow-at-every-node : (c : Chain) (f : Formula) (v : ℕ → Verdict) (k : Backed c f v) → SidesThroughout c f v k
 verdicts-follow-at-every-node c f v k = sides-throughout c f v k
 
@@ -94,7 +114,7 @@ pub starred-bench-values : BenchValues
 starred-bench-values = bench.bench-values
 
 pub eight-hours-of-every-report : (lower upper : ℕ → ℕ) (v : ℕ → Verdict)
-    → Reported (jobChain (small "P <= 10000000 U 8 up dead\n")) (until AtMost 10000000 8 up dead) lower upper v → EightHours lower upper v
+    → Reported (jobChain (small "P <= 10000000 U 8 up dead\n")) (chance AtMost 10000000 (until 8 up dead)) lower upper v → EightHours lower upper v
 eight-hours-of-every-report lower upper v k = hours.eight-hours lower upper v k
 
 pub quotients-as-reckoned : TrialQuotients
@@ -146,18 +166,18 @@ pub record HasReport (j : Job) (f : Formula) (q d : ℕ) (lower upper : ℕ → 
 
 -- a `P` within a `P`: 3,992,010 to 3,992,011 at state 0, 1,000,000,000 twice at state 1, yes twice
 pub nested-job-has-a-report : HasReport (small "P >= 1 U 8 up P > 10000000 U 8 up dead\n")
-    (until AtLeast 1 8 up (until More 10000000 8 up dead)) 500 42 examples.lower8 examples.upper8 (λ s. Yes)
+    (chance AtLeast 1 (until 8 up (chance More 10000000 (until 8 up dead)))) 500 42 examples.lower8 examples.upper8 (λ s. Yes)
 unfolding computing
 nested-job-has-a-report = record { accepts = refl; reported = examples.nested }
 
 -- and a truth table that obeys CSL's rules, yes twice at the outermost node
 pub nested-job-has-a-table : Obeys (jobChain (small "P >= 1 U 8 up P > 10000000 U 8 up dead\n"))
-    (until AtLeast 1 8 up (until More 10000000 8 up dead)) (λ s. true)
+    (chance AtLeast 1 (until 8 up (chance More 10000000 (until 8 up dead)))) (λ s. true)
 nested-job-has-a-table = examples.nested-obeys
 
 -- an undecided operand: 0 to 1,000,000,000 and undecided at state 0, 0 twice and no at state 1
 pub undecided-job-has-a-report : HasReport (small "P >= 5 U 8 up P <= 3992010 U 8 up dead\n")
-    (until AtLeast 5 8 up (until AtMost 3992010 8 up dead)) 500 42 (λ s. 0) examples.openUpper examples.openVerdict
+    (chance AtLeast 5 (until 8 up (chance AtMost 3992010 (until 8 up dead)))) 500 42 (λ s. 0) examples.openUpper examples.openVerdict
 unfolding computing
 undecided-job-has-a-report = record { accepts = refl; reported = examples.undecided }
 

@@ -1,6 +1,4 @@
--- What deciding a node asks and promises, and the laws behind it.
+-- What deciding a node asks and leaves, and when the nodes of a formula are such as it asks.
 pub mod Asked
-pub mod Parts
-pub mod Ends
-pub mod Operands
-pub mod Nodes
+pub mod Kinds
+pub mod Fits

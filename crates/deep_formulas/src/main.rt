@@ -1,8 +1,6 @@
-// The deepest formula texts, and a few small ones, through the survey, the builder and the tests: a line `ok` for each that comes out as
-// worked out by hand.
-use store::Kind;
-use store::Store;
-use store::Test;
+// The deepest formula texts, and a few small ones, read and tested: a line `ok` for each that comes out as worked out by hand.
+use formula::Kind;
+use formula::Test;
 
 // A line for each thing that is tried.
 fn say(right: bool) {
@@ -15,38 +13,38 @@ fn say(right: bool) {
 
 // The text is readable with so many nodes and levels.
 fn sized(text: &[u8], nodes: usize, levels: usize) {
-    let e = survey::survey(text);
-    say(e.readable && e.nodes == nodes && e.levels == levels);
+    let r = formula::read(text, b",up,dead");
+    say(r.readable && r.count == nodes && r.levels == levels);
 }
 
 // The text breaks the grammar.
 fn broken(text: &[u8]) {
-    let e = survey::survey(text);
-    say(!e.readable);
+    let r = formula::read(text, b",up,dead");
+    say(!r.readable);
 }
 
-// The text's store has so many nodes, and passes the tests of labels, limits and load as told.
+// So many nodes are read of the text, and pass the tests of labels, limits and load as told.
 fn tested(text: &[u8], count: usize, labels: bool, limits: bool, load: bool) {
-    let st = formula::build(text, b",up,dead");
-    say(st.count == count);
-    say(store::all_pass(st, Test::Labels(2)) == labels);
-    say(store::all_pass(st, Test::Limits) == limits);
-    say(store::all_pass(st, Test::Load(64000000)) == load);
+    let r = formula::read(text, b",up,dead");
+    let row = r.nodes;
+    say(row.count == count);
+    say(formula::all_pass(row, Test::Labels(2)) == labels);
+    say(formula::all_pass(row, Test::Limits) == limits);
+    say(formula::all_pass(row, Test::Load(64000000)) == load);
 }
 
 // The outermost of the three nodes of the small sheet's formula.
 fn small() {
-    let st = formula::build(b"P >= 1000000000 U 0 up dead\n", b",up,dead");
-    let x = st.nodes[2];
+    let r = formula::read(b"P >= 1000000000 U 0 up dead\n", b",up,dead");
+    let row = r.nodes;
+    let x = row.nodes[2];
     let k = x.kind;
     match k {
-        Kind::Until {
+        Kind::Chance {
             comparison: _,
             threshold,
-            hours,
-            first,
-            second,
-        } => say(threshold == 1000000000 && hours == 0 && first == 1 && second == 0),
+            path,
+        } => say(threshold == 1000000000 && path.hours == 0 && path.first == 0 && path.second == 1),
         Kind::Always => say(false),
         Kind::Label(_) => say(false),
         Kind::Negated(_) => say(false),

@@ -9,22 +9,22 @@ use mathlib.Core.Option.{none, some}
 use Prim.Native.Nat.{ℕ, _+_, _*_, _≤_, _<_}
 use Rattle.csl.specs.Limits.{widthFactor}
 use Rattle.csl.specs.Moves.{ratesOut}
-use Rattle.csl.specs.Formula.{Formula, until, Comparison}
+use Rattle.csl.specs.Formula.{Formula, chance, Path, until, PathOf, Comparison}
 use Rattle.csl.specs.Fraction.{Below, billionths}
 use Rattle.csl.specs.Chain.{Chain, exitRate, topRate, depth}
-use Rattle.csl.specs.Phase.{untilQuotient}
+use Rattle.csl.specs.Limit.{Each}
 use Rattle.csl.specs.Verdicts.{Verdict, Reading, asNo, Sides}
-use Rattle.csl.specs.Ends.{AllDecided}
-use Rattle.csl.specs.Backing.{Backed, NothingUndecided, SidesThroughout}
-use Rattle.csl.specs.Truth.{Obeys, UntilTrue, Throughout}
+use Rattle.csl.specs.Until.{untilQuotient}
+use Rattle.csl.specs.Path.{meaning, valueAt, AllDecided, DecidedIn, Reads}
+use Rattle.csl.specs.Backing.{Backed, ChanceKeeps, operandsOf, NothingUndecided, SidesThroughout}
+use Rattle.csl.specs.Truth.{Obeys, Throughout, ThroughoutIn}
 use Rattle.csl.specs.Report.{Reported, backingOf, depthOf}
 use Rattle.csl.specs.Lent.{Buffers, lengths}
 use Rattle.csl.specs.Refusal.{Job, jobMoves, jobChain, jobFormula, refusal, accepted, outcome}
 use Rattle.csl.specs.Finished.{Answer, refusedWith, acceptedWith, Finished}
-use Rattle.csl.specs.Laws.Throughout.{agrees-here}
 use Rattle.csl.specs.Theorems as theorems
 use Rattle.demands.specs.Proved as proved
-use Rattle.demands.specs.Proved.{TheReport}
+use Rattle.demands.specs.Proved.{TheReport, agrees-here}
 
 module _ (j : Job) (before : Buffers (List ℕ)) (a : Answer) (after : Buffers (List ℕ)) (finished : Finished j before a after) where
   -- Demand 1. "A job of three texts gets one finished report or one refusal number, for all bytes and all lent lengths; a refusal leaves every
@@ -60,27 +60,40 @@ exit-rates-by-lines j lent h s = proved.exit-by-lines j lent h s
 pub verdicts-follow : (c : Chain) (f : Formula) (v : ℕ → Verdict) (k : Backed c f v) → SidesThroughout c f v k
 verdicts-follow c f v k = theorems.verdicts-follow-at-every-node c f v k
 
-module _ (c : Chain) (r : Comparison) (p t : ℕ) (f g : Formula) (lower upper : ℕ → ℕ) (v : ℕ → Verdict)
-    (k : Reported c (until r p t f g) lower upper v) (s : ℕ) (in-range : s < c .states) where
+module _ (c : Chain) (r : Comparison) (p : ℕ) (w : Path) (lower upper : ℕ → ℕ) (v : ℕ → Verdict)
+    (k : Reported c (chance r p w) lower upper v) (s : ℕ) (in-range : s < c .states) where
   pub reported-verdicts-follow : Sides (v s) r p (lower s) (upper s)
-  reported-verdicts-follow = theorems.verdicts-follow-from-the-intervals c r p t f g lower upper v k s in-range
+  reported-verdicts-follow = theorems.verdicts-follow-from-the-intervals c r p w lower upper v k s in-range
 
-  pub no-other-verdict-follows : (w : Verdict) → Sides w r p (lower s) (upper s) → v s ≡ w
-  no-other-verdict-follows w h = theorems.intervals-allow-one-verdict c r p t f g lower upper v k w s in-range h
+  pub no-other-verdict-follows : (x : Verdict) → Sides x r p (lower s) (upper s) → v s ≡ x
+  no-other-verdict-follows x h = theorems.intervals-allow-one-verdict c r p w lower upper v k x s in-range h
 
 -- Demand 3. "Every accepted job's report has a backing" (TheReport, above), "and for every backing, at every state: the outermost until's
 -- quotient at every depth from D on, for every reading, lies in the interval; width at most 4 × D billionths where no operand state is
--- undecided": of the report of a `P`, whose backing k is any.
+-- undecided": of the report of a `P` over any path, whose backing k is any. A value is its quotients from D on (csl's `Each`, `valueAt`).
+module _ (c : Chain) (r : Comparison) (p : ℕ) (w : Path) (lower upper : ℕ → ℕ) (v : ℕ → Verdict)
+    (k : Reported c (chance r p w) lower upper v) where
+  abbrev pub operands : PathOf (ℕ → Verdict)
+  operands = operandsOf c w (ChanceKeeps c r p lower upper v) k
+
+  pub every-value-is-enclosed : (x : PathOf (ℕ → Bool)) → Reads (c .states) operands x → (s : ℕ) → s < c .states
+      → Each (λ y. Below (billionths (lower s)) y) (valueAt c x s) × Each (λ y. Below y (billionths (upper s))) (valueAt c x s)
+  every-value-is-enclosed x i s l = theorems.values-lie-in-the-interval c r p w lower upper v k x i s l
+
+  pub every-interval-is-narrow : DecidedIn c operands → (s : ℕ) → s < c .states → upper s ≤ lower s + meaning c operands .slack
+  every-interval-is-narrow i s l = theorems.intervals-are-narrow c r p w lower upper v k i s l
+
+-- and so of an until, with its quotients, its two operands and 4 × D named
 module _ (c : Chain) (r : Comparison) (p t : ℕ) (f g : Formula) (lower upper : ℕ → ℕ) (v : ℕ → Verdict)
-    (k : Reported c (until r p t f g) lower upper v) where
+    (k : Reported c (chance r p (until t f g)) lower upper v) where
   pub every-quotient-is-enclosed : (x y : ℕ → Bool) → Reading (c .states) (k .first) x → Reading (c .states) (k .second) y
       → (s n : ℕ) → s < c .states → depth c t ≤ n
       → Below (billionths (lower s)) (untilQuotient c t x y s n) × Below (untilQuotient c t x y s n) (billionths (upper s))
   every-quotient-is-enclosed x y i h s n l d = theorems.quotients-lie-in-the-interval c r p t f g lower upper v k x y i h s n l d
 
-  pub every-interval-is-narrow : AllDecided c (k .first) → AllDecided c (k .second) → (s : ℕ) → s < c .states
+  pub every-interval-of-an-until-is-narrow : AllDecided c (k .first) → AllDecided c (k .second) → (s : ℕ) → s < c .states
       → upper s ≤ lower s + widthFactor * depth c t
-  every-interval-is-narrow i h s l = theorems.intervals-are-narrow c r p t f g lower upper v k i h s l
+  every-interval-of-an-until-is-narrow i h s l = theorems.intervals-of-an-until-are-narrow c r p t f g lower upper v k i h s l
 
 -- "every truth table that obeys CSL's rules agrees with each yes and no, nested formulas included; with nothing undecided the verdicts are
 -- such a table": of every backing. That of a report is csl's `backingOf`.
@@ -91,17 +104,17 @@ module _ (c : Chain) (f : Formula) (v : ℕ → Verdict) (k : Backed c f v) wher
   pub decided-verdicts-are-a-table : NothingUndecided c f v k → (o : Obeys c f (λ s. asNo (v s))) × Throughout c f v (λ s. asNo (v s)) k o
   decided-verdicts-are-a-table d = theorems.decided-verdicts-are-a-table c f v k d
 
--- so the verdicts that any backing of a report gives the operands of its `P` agree with every such table
+-- so the verdicts that any backing of a report gives the operands of its until agree with every such table
 module _ (c : Chain) (r : Comparison) (p t : ℕ) (f g : Formula) (lower upper : ℕ → ℕ) (v : ℕ → Verdict)
-    (k : Reported c (until r p t f g) lower upper v) (table : ℕ → Bool) (o : UntilTrue c r p t (Obeys c f) (Obeys c g) table) where
+    (k : Reported c (chance r p (until t f g)) lower upper v) (table : ℕ → Bool) (o : Obeys c (chance r p (until t f g)) table) where
   pub first-operand-agrees : Reading (c .states) (k .first) (o .first)
-  unfolding Throughout backingOf Obeys
+  unfolding Throughout ThroughoutIn backingOf
   first-operand-agrees =
       agrees-here c f (k .first) (o .first) (k .first-backed) (o .first-obeys)
-      (every-table-agrees c (until r p t f g) v (backingOf c (until r p t f g) lower upper v k) table o .1)
+      (every-table-agrees c (chance r p (until t f g)) v (backingOf c (chance r p (until t f g)) lower upper v k) table o .1 .0)
 
   pub second-operand-agrees : Reading (c .states) (k .second) (o .second)
-  unfolding Throughout backingOf Obeys
+  unfolding Throughout ThroughoutIn backingOf
   second-operand-agrees =
       agrees-here c g (k .second) (o .second) (k .second-backed) (o .second-obeys)
-      (every-table-agrees c (until r p t f g) v (backingOf c (until r p t f g) lower upper v k) table o .2)
+      (every-table-agrees c (chance r p (until t f g)) v (backingOf c (chance r p (until t f g)) lower upper v k) table o .1 .1)

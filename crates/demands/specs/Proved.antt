@@ -1,30 +1,26 @@
 -- What the demands say of the answer, from what a finished job is. Assumes nothing.
 use mathlib.Core.Path.{_≡_, refl, sym, _∙_}
+use mathlib.Core.Bool.{Bool}
 use mathlib.Core.List.{List, [], _∷_, _++_}
 use mathlib.Core.Logic.{_⊎_, inl, inr}
 use mathlib.Core.Option.{Option, none, some, Option·some-ne-none}
 use Prim.Native.Nat.{ℕ, _≤_}
 use native.Mathlib.Omega.{arith}
 use lib.ListN.{length}
-use lib.Dec.{leb}
-use borrow.Author.Tests.{leb-true}
-use Rattle.csl.specs.Text.{every}
 use Rattle.csl.specs.Moves.{ratesOut}
-use Rattle.csl.specs.Formula.{nodes}
-use Rattle.csl.specs.Chain.{chainOf, exitRate, topRate}
-use Rattle.csl.specs.Verdicts.{Verdict}
+use Rattle.csl.specs.Formula.{Formula, always, label, negated, both, chance, nodes}
+use Rattle.csl.specs.Chain.{Chain, exitRate, topRate}
+use Rattle.csl.specs.Verdicts.{Verdict, Reading}
+use Rattle.csl.specs.Backing.{Backed}
+use Rattle.csl.specs.Truth.{Obeys, Throughout}
 use Rattle.csl.specs.Report.{Reported, depthOf}
 use Rattle.csl.specs.Lent.{Buffers, lengths, filled}
-use Rattle.csl.specs.Refusal.{Job, jobStates, jobMoves, jobChain, jobFormula, strangeState, ownState, refusal, textRefusal, test, textTests, firstOf, shortBuffer, accepted, outcome, outcomeBy}
+use Rattle.csl.specs.Refusal.{Job, jobSheet, jobStates, jobMoves, jobChain, jobFormula, refusal, textRefusal, textTests, firstOf, accepted, outcome, outcomeBy}
 use Rattle.csl.specs.Finished.{Answer, refusedWith, acceptedWith, Finished, FinishedBy}
-use Rattle.csl.specs.Laws.Refusal.{first-number, first-found, refusal-number-some, Passed, passed}
-use Rattle.csl.specs.Laws.Rates as rates
-
--- each number of the tests lies from 1 to 15
-numbers-within : (j : Job) (lent : Buffers ℕ) (k : ℕ) → refusal j lent ≡ some k → (1 ≤ k) × (k ≤ 15)
-unfolding refusal textTests every
-numbers-within j lent k h =
-    (refusal-number-some j lent k h, leb-true k 15 (first-number (λ n. leb n 15) (textTests j ++ (test 15 (shortBuffer j lent) ∷ [])) k refl h))
+use Rattle.accepted.specs.Order.{first-found}
+use Rattle.accepted.specs.Rates as rates
+use Rattle.accepted.specs.Sheet.{Sound}
+use Rattle.accepted.specs.Job.{refusal-number-some, refusal-number-most, passed}
 
 -- a report with its backing, in the buffers
 abbrev pub TheReport : Job → (before after : Buffers (List ℕ)) → (lower upper : ℕ → ℕ) → (ℕ → Verdict) → Type 0
@@ -73,7 +69,7 @@ module _ (j : Job) (before : Buffers (List ℕ)) (a : Answer) (after : Buffers (
   unfolding FinishedBy outcomeBy
   answered none e f = inr (f .lower, f .upper, f .verdict, f .answer, (f .buffers, f .reported))
   answered (some k) e f =
-      let w = numbers-within j (lengths before) k e in inl (k, f .answer, w .0, w .1, f .untouched)
+      inl (k, f .answer, refusal-number-some j (lengths before) k e, refusal-number-most j (lengths before) k e, f .untouched)
 
   pub one-answer : Finished j before a after
       → ((number : ℕ) × (a ≡ refusedWith number) × (1 ≤ number) × (number ≤ 15) × (after ≡ before))
@@ -96,8 +92,16 @@ module _ (j : Job) (lent : Buffers ℕ) (h : refusal j lent ≡ none) where
       go (some k) e = absurd (Option·some-ne-none k (sym (first-found (textTests j) _ k e) ∙ h))
 
   pub exit-by-lines : (s : ℕ) → exitRate (jobChain j) s ≡ ratesOut (jobMoves j) s
-  unfolding chainOf strangeState ownState
   exit-by-lines s =
-      let p : Passed j = passed j texts-pass in
-      rates.exit-by-lines (j .moves) (j .labels) (rates.within-tested (jobStates j) (jobMoves j) (p .known-states))
-      (rates.apart-tested (jobMoves j) (p .other-states)) s
+      let k : Sound (jobSheet j) = passed j texts-pass .sheet .sound in
+      rates.exit-by-lines (jobSheet j) (k .within) (k .apart) s
+
+-- a table that agrees at every node agrees at the node itself
+pub agrees-here : (c : Chain) (f : Formula) (v : ℕ → Verdict) (b : ℕ → Bool) (k : Backed c f v) (o : Obeys c f b) → Throughout c f v b k o
+    → Reading (c .states) v b
+unfolding Throughout
+agrees-here c always v b k o h = h
+agrees-here c (label name) v b k o h = h
+agrees-here c (negated a) v b k o h = h .0
+agrees-here c (both a e) v b k o h = h .0
+agrees-here c (chance r p w) v b k o h = h .0

@@ -1,32 +1,43 @@
 -- The node that a token begins. Assumes nothing.
-use mathlib.Core.Path.{_≡_, refl, sym, _∙_}
-use Prim.Native.Nat.{ℕ, suc, _-_}
+use mathlib.Core.Path.{_≡_, refl, sym, _∙_, ap}
+use Prim.Native.Nat.{ℕ, suc, _-_, _<_}
 use native.Mathlib.Omega.{arith}
-use mathlib.Core.List.{List, tail}
-use Rattle.csl.specs.Text.{Text, bytes}
+use mathlib.Core.List.{List, []}
+use lib.ListN.{length, take, drop}
+use Rattle.csl.specs.Text.{Text}
 use Rattle.csl.specs.Line.{space}
+use Rattle.csl.specs.Limits.{mostNodes}
 use Rattle.csl.specs.Formula as csl
-use Rattle.csl.specs.Grammar.{Found, nothing, found, andThen, onComparison, onNumber, onWord, pair, path, state}
-use Rattle.grammar.specs.Fixed.{read}
-use Rattle.values.specs.Paper.{comparisonOf}
-use Rattle.values.specs.declared.comparison.Comparison.{Comparison}
-use Rattle.values.specs.declared.comparison.Comparison.the-variants.{Less, AtMost, AtLeast, More}
-use Rattle.tokens.specs.Behind.{tokens, afterPart, two-tail}
-use Rattle.chance.specs.Chance.{boundThen, hoursThen}
-use Rattle.chance.specs.declared.Bound.{Bound}
-use Rattle.chance.specs.declared.Bound.the-variants as bound
-use Rattle.chance.specs.declared.Amount.{Amount}
-use Rattle.chance.specs.declared.Amount.the-variants as amount
-use Rattle.survey.specs.Size.{sizeOf}
-use Rattle.survey.specs.declared.Size.{Size}
-use Rattle.survey.specs.declared.Size.the-variants.{Read, Wrong}
-use Rattle.store.specs.declared.Kind.{Kind}
-use Rattle.store.specs.declared.Kind.the-variants as kind
-use Rattle.formula.specs.Listed.{held}
-use Rattle.formula.specs.Listing.{nodesFound, nodesAt, hollow, behindHead, chanceKind, headKind}
-use Rattle.tokens.specs.Head.{headMeant}
-use Rattle.tokens.specs.declared.Head.{Head}
-use Rattle.tokens.specs.declared.Head.the-variants.{Ampersand, Chance}
+use Rattle.csl.specs.Grammar as grammar
+use Rattle.csl.specs.Grammar.{Found, nothing, found, andThen, pair, path, headOf, state, truth, name, bang, ampersand, chances, other}
+use Rattle.grammar.specs.Left.{Leaves, none-read, left}
+use Rattle.grammar.specs.Fixed.{read, read-leaves}
+use Rattle.verdicts.specs.Paper.{comparisonOf}
+use Rattle.verdicts.specs.declared.comparison.Comparison.{Comparison}
+use Rattle.verdicts.specs.declared.comparison.Comparison.the-variants.{Less, AtMost, AtLeast, More}
+use Rattle.texts.specs.Behind.{afterPart}
+use Rattle.texts.specs.Cut.{rest-is}
+use Rattle.grammar.specs.Tokens.{tokens, bytesOf, last-behind, two-tail}
+use Rattle.grammar.specs.Head.{headMeant}
+use Rattle.grammar.specs.declared.head.Head.{Head}
+use Rattle.grammar.specs.declared.head.Head.the-variants.{Ampersand}
+use Rattle.grammar.specs.Chance.{BoundRead, HoursRead}
+use Rattle.grammar.specs.declared.chance.Bound.{Bound}
+use Rattle.grammar.specs.declared.chance.Bound.the-variants as bound
+use Rattle.grammar.specs.declared.chance.Amount.{Amount}
+use Rattle.grammar.specs.declared.chance.Amount.the-variants as amount
+use Rattle.formula.specs.Size.{sizeOf}
+use Rattle.formula.specs.declared.size.Size.{Size}
+use Rattle.formula.specs.declared.size.Size.the-variants.{Read, Wrong}
+use Rattle.formula.specs.Nodes.{OperandsBefore}
+use Rattle.formula.specs.declared.nodes.Path.{Path}
+use Rattle.formula.specs.declared.nodes.Kind.{Kind}
+use Rattle.formula.specs.declared.nodes.Kind.the-variants as kind
+use Rattle.formula.specs.Listed.{held, pathHeld, kindHeld}
+use Rattle.formula.specs.Laying.{nodesFound, nodesAt, nodesBehind, nodesSecond, hollow, kindFound, chanceKind, headKind, topKind, behindOwn}
+use Rattle.formula.specs.Route.{routeKind, RouteRead}
+use Rattle.formula.specs.declared.lay.Route.{Route}
+use Rattle.formula.specs.declared.lay.Route.the-variants as route
 
 -- the size that was read has the nodes
 module _ (s : Text) (a : Size) (is : a ≡ sizeOf (read (tokens s))) where
@@ -44,51 +55,112 @@ module _ (s : Text) (a : Size) (is : a ≡ sizeOf (read (tokens s))) where
       go nothing q = let z : _≡_ {A = ℕ} 0 1 = cc in absurd (omega arith)
       go (found f rest) q = cc
 
+  pub second-wrong : a ≡ Wrong → 0 ≡ nodesSecond (tokens s)
+  second-wrong e = go (read (tokens s)) (sym is ∙ e)
+    where
+      go : (g : Found) → sizeOf g ≡ Wrong → 0 ≡ nodesBehind g
+      go nothing q = refl
+      go (found f rest) q = let z : _≡_ {A = ℕ} 0 1 = cc in absurd (omega arith)
+
+  -- and m are the nodes of what is left
+  pub second-read : (l n d m : ℕ) → a ≡ Read l n d → m ≡ nodesAt (tokens (take (length s - (length s - l)) (drop (length s - l) s)))
+      → m ≡ nodesSecond (tokens s)
+  second-read l n d m e k = go (read-leaves (tokens s)) (sym is ∙ e)
+    where
+      go : {g : Found} → Leaves (tokens s) g → sizeOf g ≡ Read l n d → m ≡ nodesBehind g
+      go none-read q = let z : _≡_ {A = ℕ} 0 1 = cc in absurd (omega arith)
+      go (left {rest = more} {f = f} la) q =
+          let x : bytesOf more ≡ l = cc in
+          k ∙ rw (rest-is, ← x, last-behind space s more la)
+
+pub ruleset nodes-laws = (nodes-wrong, nodes-read, second-wrong, second-read)
+
 held-again : (c : Comparison) → held (comparisonOf c) ≡ c
 held-again Less = refl
 held-again AtMost = refl
 held-again AtLeast = refl
 held-again More = refl
 
+-- h are the hours at the start of the rest s
+module _ (s : Text) (i : ℕ) (h : Amount) (is : HoursRead (tokens s) h) where
+  pub route-none : h ≡ amount.Missing → RouteRead i (tokens s) route.Missing
+  unfolding path
+  route-none e c p = rw (is (λ t. pair hollow (λ a b. csl.chance (comparisonOf c) p (csl.until t a b))), e)
+
+  pub route-some : (t : ℕ) (u : Text) (n first second : ℕ) → h ≡ amount.Is t → u ≡ afterPart space (afterPart space s) → n ≡ nodesSecond (tokens u)
+      → first ≡ i - suc n → second ≡ i - 1 → RouteRead i (tokens s) (route.Is (record { hours = t; first = first; second = second }))
+  unfolding path pair andThen
+  route-some t u n first second e v q x y c p =
+      rw (is (λ t. pair hollow (λ a b. csl.chance (comparisonOf c) p (csl.until t a b))), e, two-tail s u v, ← q, held-again, x, y)
+
+pub ruleset route-laws = (route-none, route-some)
+
 -- b are the comparison and the threshold at the start of the rest s
-module _ (s : Text) (i : ℕ) (b : Bound)
-    (is : (next : csl.Comparison → ℕ → List Text → Found)
-    → onComparison (tokens s) (λ c more. onNumber more (next c)) ≡ boundThen b next (tail (tail (tokens s)))) where
+module _ (s : Text) (i : ℕ) (b : Bound) (is : BoundRead (tokens s) b) where
   pub chance-unbound : b ≡ bound.Missing → kind.Always ≡ chanceKind i (tokens s)
   unfolding state
   chance-unbound e = rw (is (path hollow), e)
 
-  -- and h the hours behind them, at the start of the rest t
-  module _ (c : Comparison) (p : ℕ) (e : b ≡ bound.Is c p) (t : Text) (behind : t ≡ afterPart space (afterPart space s)) (h : Amount)
-      (then : (next : ℕ → List Text → Found) → onWord (bytes "U") (tokens t) (λ more. onNumber more next) ≡ hoursThen h next (tail (tail (tokens t)))) where
-    pub chance-endless : h ≡ amount.Missing → kind.Always ≡ chanceKind i (tokens s)
-    unfolding state path
-    chance-endless k = rw (is (path hollow), e, two-tail s t behind, then (λ m. pair hollow (csl.until (comparisonOf c) p m)), k)
+  -- and r the path formula behind them, at the start of the rest t
+  module _ (c : Comparison) (p : ℕ) (e : b ≡ bound.Is c p) (t : Text) (behind : t ≡ afterPart space (afterPart space s)) (r : Route)
+      (then : RouteRead i (tokens t) r) where
+    by-route : routeKind c p r ≡ chanceKind i (tokens s)
+    unfolding state
+    by-route = rw (is (path hollow), e, two-tail s t behind) (sym (then c p))
 
-    pub chance-whole : (m : ℕ) (u : Text) (n first second : ℕ) → h ≡ amount.Is m → u ≡ afterPart space (afterPart space t) → n ≡ nodesAt (tokens u)
-        → first ≡ i - 1 → second ≡ i - suc n → kind.Until c p m first second ≡ chanceKind i (tokens s)
-    unfolding state path pair andThen
-    chance-whole m u n first second k v q x y =
-        rw (is (path hollow), e, two-tail s t behind, then (λ j. pair hollow (csl.until (comparisonOf c) p j)), k, two-tail t u v, ← q, held-again, x, y)
+    pub chance-none : r ≡ route.Missing → kind.Always ≡ chanceKind i (tokens s)
+    chance-none k = sym (ap (routeKind c p) k) ∙ by-route
 
-pub ruleset chance-laws = (chance-unbound, chance-endless, chance-whole)
+    pub chance-some : (w : Path) → r ≡ route.Is w → kind.Chance c p w ≡ chanceKind i (tokens s)
+    chance-some w k = sym (ap (routeKind c p) k) ∙ by-route
+
+pub ruleset chance-laws = (chance-unbound, chance-none, chance-some)
 
 -- h is the kind of the first token w
-module _ (names : List Text) (i : ℕ) (w : Text) (ts : List Text) (h : Head) where
-  pub top-is : (g : Head) (k : Kind) → h ≡ g → k ≡ headKind names i w (headMeant g) ts → k ≡ headKind names i w (headMeant h) ts
-  top-is g k e q = rw e q
+module _ (names : List Text) (i : ℕ) (w : Text) (ts : List Text) (h : Head) (is : headMeant h ≡ headOf w) where
+  pub top-is : (g : Head) (k : Kind) → h ≡ g → k ≡ headKind names i w (headMeant g) ts → k ≡ topKind names i w ts
+  top-is g k e q = rw (← is, e) q
 
-  pub top-both : (n first second : ℕ) → h ≡ Ampersand → n ≡ nodesAt ts → first ≡ i - 1 → second ≡ i - suc n
-      → kind.Both first second ≡ headKind names i w (headMeant h) ts
-  top-both n first second e q x y = rw (e, x, y, q)
+  pub top-both : (n first second : ℕ) → h ≡ Ampersand → n ≡ nodesSecond ts → first ≡ i - suc n → second ≡ i - 1
+      → kind.Both first second ≡ topKind names i w ts
+  top-both n first second e q x y = rw (← is, e, x, y, q)
 
--- and s the rest behind it
-module _ (h : Head) (s : Text) where
-  pub own-plain : (g : Head) → h ≡ g → tokens s ≡ behindHead (headMeant g) (tokens s) → tokens s ≡ behindHead (headMeant h) (tokens s)
+pub ruleset top-laws = (top-is, top-both)
+
+-- k is a node's kind, and s the rest behind its first token
+module _ (k : Kind) (s : Text) where
+  pub own-plain : (g : Kind) → k ≡ g → tokens s ≡ behindOwn g (tokens s) → tokens s ≡ behindOwn k (tokens s)
   own-plain g e q = rw e q
 
-  pub own-chance : (t u : Text) → h ≡ Chance → t ≡ afterPart space (afterPart space s) → u ≡ afterPart space (afterPart space t)
-      → tokens u ≡ behindHead (headMeant h) (tokens s)
-  own-chance t u e q r = rw (e, two-tail s t q, two-tail t u r)
+  pub own-chance : (c : Comparison) (p : ℕ) (w : Path) (t u : Text) → k ≡ kind.Chance c p w → t ≡ afterPart space (afterPart space s)
+      → u ≡ afterPart space (afterPart space t) → tokens u ≡ behindOwn k (tokens s)
+  own-chance c p w t u e q r = rw (e, two-tail s t q, two-tail t u r)
 
-pub ruleset top-laws = (top-is, top-both, own-plain, own-chance)
+pub ruleset own-laws = (own-plain, own-chance)
+
+-- its operands stand in the row where it does
+module _ (i n : ℕ) (h : i < mostNodes) where
+  path-below : (c : Comparison) (p : ℕ) (w : csl.Path) → OperandsBefore mostNodes (kind.Chance c p (pathHeld i n w))
+  path-below c p (csl.until t a b) = (omega arith, omega arith)
+
+  held-below : (f : csl.Formula) → OperandsBefore mostNodes (kindHeld [] i n f)
+  held-below csl.always = tt
+  held-below (csl.label w) = tt
+  held-below (csl.negated a) = omega arith
+  held-below (csl.both a b) = (omega arith, omega arith)
+  held-below (csl.chance r p w) = path-below (held r) p w
+
+  found-below : (fd : Found) → OperandsBefore mostNodes (kindFound i n fd)
+  found-below nothing = tt
+  found-below (found f rest) = held-below f
+
+pub top-below : (names : List Text) (i : ℕ) (w : Text) (ts : List Text) → i < mostNodes → OperandsBefore mostNodes (topKind names i w ts)
+top-below names i w ts h = go (headOf w)
+  where
+    go : (hd : grammar.Head) → OperandsBefore mostNodes (headKind names i w hd ts)
+    go truth = tt
+    go name = tt
+    go bang = omega arith
+    go ampersand = (omega arith, omega arith)
+    go chances = found-below i _ h (state hollow [] chances ts)
+    go other = tt

@@ -1,77 +1,96 @@
--- One node more is laid, from the top down. Assumes nothing.
-use mathlib.Core.Path.{_≡_, refl, _∙_}
-use Prim.Native.Nat.{ℕ, zero, suc, _-_, _≤_, _<_}
+-- One node more is laid, at the place that waits first. Assumes nothing.
+use mathlib.Core.Path.{_≡_, refl, sym, _∙_}
+use Prim.Native.Nat.{ℕ, zero, suc, _+_, _-_, _≤_, _<_}
 use native.Mathlib.Omega.{arith}
-use mathlib.Core.List.{List, [], _∷_, _++_, headD, tail, append-assoc}
-use lib.ListN.{length, drop, set, replicate, length-set}
-use lib.Seq.{drop-cons, drop-set-lt, getD-set-same, lt-length-set}
+use mathlib.Core.List.{List, [], _∷_, headD, tail}
+use lib.ListN.{length, set, getD, replicate, length-set}
 use Rattle.csl.specs.Text.{Text}
+use Rattle.csl.specs.Limits.{mostNodes}
 use Rattle.csl.specs.Line.{space, parts}
-use Rattle.csl.specs.Grammar.{headOf}
-use Rattle.tokens.specs.Behind.{tokens, behindFirst, afterPart, parts-first, behind-tail}
-use Rattle.tokens.specs.Head.{headMeant}
-use Rattle.tokens.specs.declared.Head.{Head}
-use Rattle.store.specs.declared.Node.{Node}
-use Rattle.store.specs.declared.Kind.{Kind}
-use Rattle.store.specs.declared.Store.{Store}
-use Rattle.store.specs.Shown.{node, blank}
-use Rattle.formula.specs.Listing.{behindHead, headKind, listing, laid}
+use Rattle.texts.specs.Behind.{behindFirst, afterPart, parts-first, behind-tail}
+use Rattle.grammar.specs.Tokens.{tokens}
+use Rattle.formula.specs.declared.nodes.Node.{Node}
+use Rattle.formula.specs.declared.nodes.Kind.{Kind}
+use Rattle.formula.specs.declared.nodes.Nodes.{Nodes}
+use Rattle.formula.specs.declared.waiting.Waiting.{Waiting}
+use Rattle.formula.specs.Nodes.{node, blank}
+use Rattle.formula.specs.Waiting.{waitingRoom, waits, nothingWaits, waitFor, waitOver}
+use Rattle.formula.specs.Laying.{topKind, behindOwn, awaiting, laying, laid}
+use Rattle.formula.proofs.KindLaw.{top-below}
+use Rattle.formula.proofs.WaitLaw.{Sound, sound-first, next-is, next-waits, operands-await}
 
-drop-blank : (n m : ℕ) → drop n (replicate m blank) ≡ replicate (m - n) blank
-drop-blank zero m = let e : m - 0 ≡ m = omega arith in rw e
-drop-blank (suc n) zero = let e : 0 - suc n ≡ 0 = omega arith in rw e
-drop-blank (suc n) (suc m) = let e : suc m - suc n ≡ m - n = omega arith in rw e (drop-blank n m)
-
--- a row with one node put in at its end
-set-drop : (ns : List Node) (i : ℕ) (x : Node) → i < length ns → drop i (set ns i x) ≡ x ∷ drop (suc i) ns
-set-drop ns i x h =
-    drop-cons (set ns i x) i blank (lt-length-set ns i x h) ∙ rw (getD-set-same ns i x blank h, drop-set-lt (suc i) ns i x (omega arith))
-
--- What is laid, and what is still to lay, down from place i: the next node's first token is w, and s the rest behind it.
-pub record Laying (names : List Text) (count : ℕ) (ts : List Text) (st : Store) (w s : Text) (i : ℕ) : Type 0 where
-  pub within : i ≤ count
-  pub rows : length (st .nodes) ≡ 64
-  pub counted : st .count ≡ count
-  pub row : listing names i (w ∷ tokens s) ++ drop i (st .nodes) ≡ listing names count ts ++ replicate (64 - count) blank
+-- What is laid, what waits, and what is still to lay: the next node's first token is w, and s the rest behind it.
+pub record Underway (names : List Text) (count : ℕ) (ts : List Text) (row : Nodes) (waiting : Waiting) (w s : Text) (left : ℕ) : Type 0 where
+  pub long : length (row .nodes) ≡ mostNodes
+  pub counted : row .count ≡ count
+  pub sound : Sound waiting
+  pub low : left ≤ waiting .from
+  pub high : waiting .from + left ≤ waitingRoom
+  pub same : laying names left (waits waiting) (w ∷ tokens s) (row .nodes)
+      ≡ laying names count (waits (waitFor (count - 1) nothingWaits)) ts (replicate mostNodes blank)
 
 module _ (names : List Text) where
   -- where there is no token, an empty one is laid
-  some-listing : (i : ℕ) (ts : List Text) → listing names i (headD ts [] ∷ tail ts) ≡ listing names i ts
-  unfolding listing headD
-  some-listing zero ts = refl
-  some-listing (suc i) ts = refl
+  some-laying : (k : ℕ) (ps : List ℕ) (ts : List Text) (ns : List Node) → laying names k ps (headD ts [] ∷ tail ts) ns ≡ laying names k ps ts ns
+  unfolding laying headD
+  some-laying zero ps ts ns = refl
+  some-laying (suc k) ps ts ns = refl
 
-  pub lay-start : (count : ℕ) (line w s : Text) → count ≤ 64 → w ≡ headD (parts space line) [] → s ≡ behindFirst space line
-      → Laying names count (parts space line) (record { nodes = replicate 64 blank; count = count }) w s count
+  one-laid : (k : ℕ) (ps : List ℕ) (w : Text) (ts : List Text) (ns : List Node) (i : ℕ) (kd : Kind) → headD ps 0 ≡ i → kd ≡ topKind names i w ts
+      → laying names k (awaiting kd (tail ps)) (behindOwn kd ts) (set ns i (node kd)) ≡ laying names (suc k) ps (w ∷ ts) ns
+  unfolding laying headD
+  one-laid k ps w ts ns i kd e f = rw (f, ← e)
+
+  pub lay-start : (count : ℕ) (line w s : Text) (p : ℕ) (waiting : Waiting) → count ≤ mostNodes → p ≡ count - 1 → waiting ≡ waitFor p nothingWaits
+      → w ≡ headD (parts space line) [] → s ≡ behindFirst space line
+      → Underway names count (parts space line) (record { nodes = replicate mostNodes blank; count = count }) waiting w s count
   unfolding headD
-  lay-start count line w s h e f =
-      record { within = omega arith; rows = refl; counted = refl; row = rw (drop-blank count 64, e, f, parts-first) }
+  lay-start count line w s p waiting h q v e f =
+      rw (v, q)
+      (record {
+        long = refl;
+        counted = refl;
+        sound = sound-first (count - 1) (omega arith);
+        low = omega arith;
+        high = omega arith;
+        same = rw (e, f, parts-first);
+      })
 
-  -- the node k at place i - 1, whose first token is of the kind h; behind its own tokens stands the rest, and in it v and t
-  pub lay-on : (count : ℕ) (ts : List Text) (st : Store) (w s : Text) (i : ℕ) (h : Head) (k : Kind) (rest v t : Text) → count ≤ 64
-      → Laying names count ts st w s i → 0 < i → headMeant h ≡ headOf w → k ≡ headKind names (i - 1) w (headMeant h) (tokens s)
-      → tokens rest ≡ behindHead (headMeant h) (tokens s) → v ≡ headD (tokens rest) [] → t ≡ afterPart space rest
-      → Laying names count ts (record { nodes = set (st .nodes) (i - 1) (node k); count = st .count }) v t (i - 1)
-  unfolding listing headD
-  lay-on count ts st w s zero h k rest v t b l p m top own e f = absurd (omega arith)
-  lay-on count ts st w s (suc i) h k rest v t b l p m top own e f =
-      let z : suc i - 1 ≡ i = omega arith in
-      let g = rw (z, m) at top in
-      let o = rw m at own in
-      record {
-        within = omega arith;
-        rows = length-set (st .nodes) (suc i - 1) (node k) ∙ l .rows;
-        counted = l .counted;
-        row =
-            rw (z, set-drop (st .nodes) i (node k) (omega (arith, l .rows, l .within)), e, f, ← behind-tail, some-listing, o, g)
-            (rw append-assoc at (l .row));
-      }
+  module _ (count : ℕ) (ts : List Text) (row : Nodes) (waiting : Waiting) (w s : Text) (left : ℕ)
+      (u : Underway names count ts row waiting w s left) where
+    pub lay-room : 0 < left → waiting .from < waitingRoom
+    lay-room h = omega (arith, u .high)
 
-  pub lay-done : (count : ℕ) (ts : List Text) (st : Store) (w s : Text) (i : ℕ) → Laying names count ts st w s i → i ≤ 0 → st ≡ laid names count ts
-  unfolding laid listing
-  lay-done count ts st w s i l h =
-      let e : i ≡ 0 = omega arith in
-      let f : st .nodes ≡ listing names count ts ++ replicate (64 - count) blank = rw e at (l .row) in
-      rw (← f, ← l .counted)
+    pub lay-place : (i : ℕ) → i ≡ getD (waiting .places) (waiting .from) 0 → i < mostNodes
+    lay-place i e = rw e (u .sound .below (waiting .from))
 
-pub ruleset lay-laws = (lay-start, lay-on, lay-done)
+    -- the node k at the place i, and behind its own tokens the rest, in it v and t
+    pub lay-on : (i : ℕ) (k : Kind) (more : Waiting) (rest v t : Text) → 0 < left → i ≡ getD (waiting .places) (waiting .from) 0
+        → k ≡ topKind names i w (tokens s) → more ≡ waitOver k (record { places = waiting .places; from = waiting .from + 1 })
+        → tokens rest ≡ behindOwn k (tokens s) → v ≡ headD (tokens rest) [] → t ≡ afterPart space rest
+        → Underway names count ts (record { nodes = set (row .nodes) i (node k); count = row .count }) more v t (left - 1)
+    lay-on i k more rest v t h e f g o x y =
+        let room : waiting .from < waitingRoom = lay-room h in
+        let fits = rw (← f) at (top-below names i w (tokens s) (lay-place i e)) in
+        let a = operands-await _ _ (waiting .from + 1) (next-waits waiting (u .sound) room) (omega (arith, u .low)) (omega arith) k fits in
+        let z : suc (left - 1) ≡ left = omega arith in
+        rw (g, x, y)
+        (record {
+          long = length-set (row .nodes) i (node k) ∙ u .long;
+          counted = u .counted;
+          sound = a .sound;
+          low = omega (arith, u .low, a .low);
+          high = omega (arith, u .high, a .high);
+          same =
+              rw (a .are, ← behind-tail, some-laying, o)
+              (one-laid (left - 1) (waits waiting) w (tokens s) (row .nodes) i k (next-is waiting (u .sound) room ∙ sym e) f ∙ rw z (u .same));
+        })
+
+    pub lay-done : left ≤ 0 → row ≡ laid names count ts
+    unfolding laid laying
+    lay-done h =
+        let e : left ≡ 0 = omega arith in
+        let f = rw e at (u .same) in
+        rw (← f, ← u .counted)
+
+pub ruleset lay-laws = (lay-start, lay-room, lay-place, lay-on, lay-done)

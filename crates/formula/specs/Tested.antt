@@ -2,97 +2,105 @@
 use mathlib.Core.Path.{_≡_, refl, _∙_}
 use Prim.Native.Nat.{ℕ, suc, _+_}
 use native.Mathlib.Omega.{arith}
-use mathlib.Core.Bool.{Bool, true, false, cond, _&&_, _||_, and-true}
-use mathlib.Core.List.{List, [], _∷_}
-use lib.ListN.{length}
-use lib.Dec.{ltb, leb·suc-suc}
-use borrow.Author.Tests.{lt-ltb, le-ltb}
-use Rattle.csl.specs.Text.{Text, same, among}
+use mathlib.Core.Bool.{Bool, true, _&&_, and-true, and-assoc, and-comm}
+use mathlib.Core.List.{List}
+use Rattle.csl.specs.Text.{Text}
 use Rattle.csl.specs.Labels.{placeOf}
 use Rattle.csl.specs.Formula as csl
-use Rattle.csl.specs.Formula.{Formula, nodes, labelsPass, untilsPass}
-use Rattle.store.specs.Pass.{placePasses, untilPasses, allBelow, placePassed}
-use Rattle.store.specs.declared.Node.{Node}
-use Rattle.store.specs.declared.Test.{Test}
-use Rattle.formula.specs.Listed.{listed}
-use Rattle.formula.specs.Holds.{Holds, one-held, both-held, until-held, always-held, label-held}
+use Rattle.csl.specs.Formula.{Formula, PathOf, pathOf, nodes, nodesIn, labelsPass, labelsPassIn, pathsPass, pathsPassIn}
+use Rattle.formula.specs.Nodes.{pathMeant}
+use Rattle.formula.specs.Pass.{placePasses, pathPasses, allBelow, placePassed}
+use Rattle.formula.specs.declared.nodes.Node.{Node}
+use Rattle.formula.specs.declared.pass.Test.{Test}
+use Rattle.formula.specs.declared.pass.Test.the-variants.{Labels, Limits, Load}
+use Rattle.formula.specs.Listed.{pathHeld, listed, listedIn}
+use Rattle.formula.specs.Stands.{Stands, first-held, second-held, always-held, label-held, negated-held, both-held, chance-held}
 
--- each label in it passes one test, and each until another
-unfoldable pub treePass : (Text → Bool) → (ℕ → ℕ → Bool) → Formula → Bool
-treePass name bound csl.always = true
-treePass name bound (csl.label w) = name w
-treePass name bound (csl.negated a) = treePass name bound a
-treePass name bound (csl.both a c) = treePass name bound a && treePass name bound c
-treePass name bound (csl.until r p t a c) = bound p t && treePass name bound a && treePass name bound c
+-- each label in it passes one test, and the threshold and the path of each `P` another
+unfoldable mutual
+  pub treePass : (Text → Bool) → (ℕ → PathOf Formula → Bool) → Formula → Bool
+  treePass name bound csl.always = true
+  treePass name bound (csl.label w) = name w
+  treePass name bound (csl.negated a) = treePass name bound a
+  treePass name bound (csl.both a c) = treePass name bound a && treePass name bound c
+  treePass name bound (csl.chance r p w) = bound p (pathOf w) && treePassIn name bound w
 
-pub labels-tree : (name : Text → Bool) (f : Formula) → treePass name (λ p t. true) f ≡ labelsPass name f
-unfolding treePass labelsPass
-labels-tree name csl.always = refl
-labels-tree name (csl.label w) = refl
-labels-tree name (csl.negated a) = labels-tree name a
-labels-tree name (csl.both a c) = rw (labels-tree name a, labels-tree name c)
-labels-tree name (csl.until r p t a c) = rw (labels-tree name a, labels-tree name c)
+  pub treePassIn : (Text → Bool) → (ℕ → PathOf Formula → Bool) → csl.Path → Bool
+  treePassIn name bound (csl.until t a c) = treePass name bound a && treePass name bound c
 
-pub untils-tree : (bound : ℕ → ℕ → Bool) (f : Formula) → treePass (λ w. true) bound f ≡ untilsPass bound f
-unfolding treePass untilsPass
-untils-tree bound csl.always = refl
-untils-tree bound (csl.label w) = refl
-untils-tree bound (csl.negated a) = untils-tree bound a
-untils-tree bound (csl.both a c) = rw (untils-tree bound a, untils-tree bound c)
-untils-tree bound (csl.until r p t a c) = rw (untils-tree bound a, untils-tree bound c)
+mutual
+  unfolding treePass treePassIn labelsPass labelsPassIn
 
-and-two : (x a c : Bool) → ((x && c) && a) && true ≡ x && (a && c)
-and-two true true true = refl
-and-two true true false = refl
-and-two true false true = refl
-and-two true false false = refl
-and-two false a c = refl
+  pub labels-tree : (name : Text → Bool) (f : Formula) → treePass name (λ p o. true) f ≡ labelsPass name f
+  labels-tree name csl.always = refl
+  labels-tree name (csl.label w) = refl
+  labels-tree name (csl.negated a) = labels-tree name a
+  labels-tree name (csl.both a c) = rw (labels-tree name a, labels-tree name c)
+  labels-tree name (csl.chance r p w) = labels-in name w
 
-and-three : (x a c u : Bool) → ((x && c) && a) && u ≡ x && (u && a && c)
-and-three true true true true = refl
-and-three true true true false = refl
-and-three true true false true = refl
-and-three true true false false = refl
-and-three true false true true = refl
-and-three true false true false = refl
-and-three true false false true = refl
-and-three true false false false = refl
-and-three false a c u = refl
+  labels-in : (name : Text → Bool) (w : csl.Path) → treePassIn name (λ p o. true) w ≡ labelsPassIn name w
+  labels-in name (csl.until t a c) = rw (labels-tree name a, labels-tree name c)
+
+mutual
+  unfolding treePass treePassIn pathsPass pathsPassIn
+
+  pub paths-tree : (bound : ℕ → PathOf Formula → Bool) (f : Formula) → treePass (λ w. true) bound f ≡ pathsPass bound f
+  paths-tree bound csl.always = refl
+  paths-tree bound (csl.label w) = refl
+  paths-tree bound (csl.negated a) = paths-tree bound a
+  paths-tree bound (csl.both a c) = rw (paths-tree bound a, paths-tree bound c)
+  paths-tree bound (csl.chance r p w) = rw (paths-in bound w)
+
+  paths-in : (bound : ℕ → PathOf Formula → Bool) (w : csl.Path) → treePassIn (λ w. true) bound w ≡ pathsPassIn bound w
+  paths-in bound (csl.until t a c) = rw (paths-tree bound a, paths-tree bound c)
+
+-- the test of a path looks at its hours and not at its operands
+path-tested : (test : Test) (p i n : ℕ) (w : csl.Path) → pathPasses test p (pathMeant (pathHeld i n w)) ≡ pathPasses test p (pathOf w)
+path-tested (Labels names) p i n (csl.until t a c) = refl
+path-tested Limits p i n (csl.until t a c) = refl
+path-tested (Load q) p i n (csl.until t a c) = refl
 
 module _ (names : List Text) (test : Test) (ns : List Node) where
   abbrev pub upto : ℕ → Bool
   upto b = allBelow (placePassed test ns) b
 
   abbrev pub pass : Formula → Bool
-  pass f = treePass (λ w. placePasses test (placeOf names w)) (untilPasses test) f
+  pass f = treePass (λ w. placePasses test (placeOf names w)) (pathPasses test) f
+
+  abbrev passIn : csl.Path → Bool
+  passIn w = treePassIn (λ w. placePasses test (placeOf names w)) (pathPasses test) w
 
   -- the nodes of f stand from place b on
-  pub tests-tree : (f : Formula) (b : ℕ) → Holds ns (listed names f b) b → upto (b + nodes f) ≡ upto b && pass f
-  unfolding allBelow treePass nodes
-  tests-tree csl.always b h = let e : b + 1 ≡ suc b = omega arith in rw (e, always-held names ns b h)
-  tests-tree (csl.label w) b h = let e : b + 1 ≡ suc b = omega arith in rw (e, label-held names ns w b h)
-  tests-tree (csl.negated a) b h =
-      let o = one-held names ns a b h in
-      let e : b + (1 + nodes a) ≡ suc (b + nodes a) = omega arith in
-      rw (e, o .own, tests-tree a b (o .first), and-true)
-  tests-tree (csl.both a c) b h =
-      let o = both-held names ns a c b h in
-      let e : b + (1 + (nodes a + nodes c)) ≡ suc (b + (nodes a + nodes c)) = omega arith in
-      let d : b + (nodes a + nodes c) ≡ b + nodes c + nodes a = omega arith in
-      rw (e, o .own, d, tests-tree a (b + nodes c) (o .first), tests-tree c b (o .second)) (and-two (upto b) (pass a) (pass c))
-  tests-tree (csl.until r p t a c) b h =
-      let o = until-held names ns r p t a c b h in
-      let e : b + (1 + (nodes a + nodes c)) ≡ suc (b + (nodes a + nodes c)) = omega arith in
-      let d : b + (nodes a + nodes c) ≡ b + nodes c + nodes a = omega arith in
-      rw (e, o .own, d, tests-tree a (b + nodes c) (o .first), tests-tree c b (o .second)) (and-three (upto b) (pass a) (pass c) (untilPasses test p t))
+  mutual
+    unfolding allBelow treePass treePassIn nodes nodesIn listedIn
 
--- among names, by the place
-pub among-place : (names : List Text) (w : Text) → ltb (placeOf names w) (length names) ≡ among names w
-unfolding placeOf among
-among-place [] w = le-ltb 0 0 (omega arith)
-among-place (x ∷ xs) w = go (same x w) (among-place xs w)
-  where
-    go : (p : Bool) → ltb (placeOf xs w) (length xs) ≡ among xs w
-        → ltb (cond p 0 (suc (placeOf xs w))) (suc (length xs)) ≡ (p || among xs w)
-    go true ih = lt-ltb 0 (suc (length xs)) (omega arith)
-    go false ih = leb·suc-suc (suc (placeOf xs w)) (length xs) ∙ ih
+    pub tests-tree : (f : Formula) (b : ℕ) → Stands ns (listed names f b) b → upto (b + nodes f) ≡ upto b && pass f
+    tests-tree csl.always b h = let e : b + 1 ≡ suc b = omega arith in rw (e, always-held names ns b h)
+    tests-tree (csl.label w) b h = let e : b + 1 ≡ suc b = omega arith in rw (e, label-held names ns w b h)
+    tests-tree (csl.negated a) b h =
+        let o = negated-held names ns a b h in
+        let e : b + (1 + nodes a) ≡ suc (b + nodes a) = omega arith in
+        rw (e, o .own, tests-tree a b (o .below), and-true)
+    tests-tree (csl.both a c) b h =
+        let o = both-held names ns a c b h in
+        let e : b + (1 + (nodes a + nodes c)) ≡ suc (b + (nodes a + nodes c)) = omega arith in
+        let d : b + (nodes a + nodes c) ≡ b + nodes a + nodes c = omega arith in
+        rw (
+          e,
+          o .own,
+          and-true,
+          d,
+          tests-tree c (b + nodes a) (second-held names ns a c b (o .below)),
+          tests-tree a b (first-held names ns a c b (o .below)),
+        )
+        (and-assoc (upto b) (pass a) (pass c))
+    tests-tree (csl.chance r p w) b h =
+        let o = chance-held names ns r p w b h in
+        let e : b + (1 + nodesIn w) ≡ suc (b + nodesIn w) = omega arith in
+        rw (e, o .own, tests-in w b (o .below), path-tested) (and-assoc (upto b) (passIn w) _ ∙ rw (and-comm (passIn w)))
+
+    tests-in : (w : csl.Path) (b : ℕ) → Stands ns (listedIn names w b) b → upto (b + nodesIn w) ≡ upto b && passIn w
+    tests-in (csl.until t a c) b h =
+        let d : b + (nodes a + nodes c) ≡ b + nodes a + nodes c = omega arith in
+        rw (d, tests-tree c (b + nodes a) (second-held names ns a c b h), tests-tree a b (first-held names ns a c b h))
+        (and-assoc (upto b) (pass a) (pass c))

@@ -11,8 +11,8 @@ use Rattle.csl.specs.Text.{Text, same, every}
 use Rattle.csl.specs.Limits.{formulaDigits}
 use Rattle.csl.specs.Number.{isNumber, valueOf}
 use Rattle.csl.specs.Labels.{isWord}
-use Rattle.csl.specs.Formula.{Formula, both, until, Comparison}
-use Rattle.csl.specs.Grammar.{Found, nothing, found, Reader, andThen, comparisonOf, onComparison, onNumber, onWord, pair, path, Head, truth, name, bang, ampersand, chance, other, headOf, state, readState}
+use Rattle.csl.specs.Formula.{Formula, both, chance, until, Comparison}
+use Rattle.csl.specs.Grammar.{Found, nothing, found, Reader, andThen, comparisonOf, onComparison, onNumber, onWord, pair, path, Head, truth, name, bang, ampersand, chances, other, headOf, state, readState}
 use Rattle.grammar.specs.Left.{Leaves, none-read, left, Steady, steps-leave, last-length}
 
 -- a state formula at the head of the tokens, as csl reads it
@@ -67,7 +67,7 @@ module _ (n : ℕ) (r s : Reader) (agree : Agree n r s) (steady : Steady s) wher
   path-agrees : (c : Comparison) (p : ℕ) → Agree n (path r c p) (path s c p)
   unfolding path
   path-agrees c p ts h =
-      word-agrees _ ts _ _ λ more k. number-agrees more _ _ λ t rest l. pair-agrees (until c p t) rest (omega arith)
+      word-agrees _ ts _ _ λ more k. number-agrees more _ _ λ t rest l. pair-agrees (λ a b. chance c p (until t a b)) rest (omega arith)
 
   state-agrees : (w : Text) (h : Head) → Agree n (state r w h) (state s w h)
   unfolding state andThen
@@ -75,7 +75,7 @@ module _ (n : ℕ) (r s : Reader) (agree : Agree n r s) (steady : Steady s) wher
   state-agrees w name ts l = refl
   state-agrees w bang ts l = rw (agree ts l)
   state-agrees w ampersand ts l = pair-agrees both ts l
-  state-agrees w chance ts l =
+  state-agrees w chances ts l =
       comparison-agrees ts _ _ λ c more k. number-agrees more _ _ λ p rest m. path-agrees c p rest (omega arith)
   state-agrees w other ts l = refl
 

@@ -10,8 +10,8 @@ use lib.Seq.{drop-drop}
 use Rattle.csl.specs.Text.{Text, same}
 use Rattle.csl.specs.Limits.{formulaDigits}
 use Rattle.csl.specs.Number.{isNumber, valueOf}
-use Rattle.csl.specs.Formula.{Formula, both, until, Comparison}
-use Rattle.csl.specs.Grammar.{Found, nothing, found, Reader, andThen, comparisonOf, onComparison, onNumber, onWord, pair, path, Head, truth, name, bang, ampersand, chance, other, headOf, state, readState}
+use Rattle.csl.specs.Formula.{Formula, both, chance, until, Comparison}
+use Rattle.csl.specs.Grammar.{Found, nothing, found, Reader, andThen, comparisonOf, onComparison, onNumber, onWord, pair, path, Head, truth, name, bang, ampersand, chances, other, headOf, state, readState}
 
 -- the last of the tokens ts
 pub record Last (ts rest : List Text) : Type 0 where
@@ -87,7 +87,7 @@ module _ (read : Reader) (steady : Steady read) where
 
   pub path-leaves : (r : Comparison) (p : ℕ) → Steady (path read r p)
   unfolding path
-  path-leaves r p ts = word-leaves _ ts _ λ more. number-leaves more _ λ t rest. pair-leaves (until r p t) rest
+  path-leaves r p ts = word-leaves _ ts _ λ more. number-leaves more _ λ t rest. pair-leaves (λ a b. chance r p (until t a b)) rest
 
   pub state-leaves : (w : Text) (h : Head) → Steady (state read w h)
   unfolding state
@@ -95,7 +95,7 @@ module _ (read : Reader) (steady : Steady read) where
   state-leaves w name ts = left (last-all ts)
   state-leaves w bang ts = then-leaves _ (steady ts) λ a rest l. left l
   state-leaves w ampersand ts = pair-leaves both ts
-  state-leaves w chance ts = comparison-leaves ts _ λ r more. number-leaves more _ λ p rest. path-leaves r p rest
+  state-leaves w chances ts = comparison-leaves ts _ λ r more. number-leaves more _ λ p rest. path-leaves r p rest
   state-leaves w other ts = none-read
 
 pub steps-leave : (k : ℕ) → Steady (readState k)

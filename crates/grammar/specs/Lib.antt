@@ -1,4 +1,7 @@
--- Laws of the grammar that csl defines on tokens.
+-- The tokens of a formula and what they stand for; laws of the grammar that csl defines on tokens.
 pub mod Left
 pub mod Fixed
 pub mod Then
+pub mod Tokens
+pub mod Head
+pub mod Chance

@@ -1,1 +1,11 @@
-// Laws of the formula's grammar, on the definitions alone: how many steps a reader needs, and what it leaves. No code.
+// The tokens of a formula: what the first of a state formula says, and what a `P` is followed by. Besides, laws on the grammar.
+mod chance;
+mod head;
+
+pub use chance::Amount;
+pub use chance::Bound;
+pub use chance::read_bound;
+pub use chance::read_hours;
+pub use head::Head;
+pub use head::after_two;
+pub use head::read_head;

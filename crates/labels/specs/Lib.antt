@@ -1,5 +1,6 @@
--- What the readers of the labels text answer, and laws of it for their callers.
-pub mod Row
+-- What the readers of the labels text answer.
+pub mod FirstLine
+pub mod StateLine
 pub mod Facts
-pub mod RowLaw
-pub mod RowsLaw
+pub mod Left
+pub mod Words

@@ -9,9 +9,10 @@ use lib.Dec.{leb, ltb, eqb}
 use borrow.Author.Tests.{lt-ltb, le-ltb, ltb-true, ltb-false, eqb-true, eqb-false}
 use Rattle.csl.specs.Text.{any}
 use Rattle.csl.specs.Moves.{Move, isBefore, isRising}
+use Rattle.moves.specs.Totals.{totalsOver}
 use Rattle.moves.specs.Tally.{begun, added, placeIn, tallied}
-use Rattle.moves.specs.Facts.{namesStrange, hasOwn}
-use Rattle.moves.specs.declared.Tally.{Tally}
+use Rattle.csl.specs.Refusal.{strangeState, ownState}
+use Rattle.moves.specs.declared.tally.Tally.{Tally}
 
 module _ (n : ℕ) where
   pub count-is : (a : Tally) (ms : List Move) → tallied n a ms .count ≡ a .count + length ms
@@ -19,22 +20,27 @@ module _ (n : ℕ) where
   count-is a [] = omega arith
   count-is a (m ∷ ms) = omega (arith, count-is (added n a (m .from) (m .to) (m .rate)) ms)
 
-  pub strange-is : (a : Tally) (ms : List Move) → tallied n a ms .strange ≡ (a .strange || namesStrange n ms)
+  pub strange-is : (a : Tally) (ms : List Move) → tallied n a ms .strange ≡ (a .strange || strangeState n ms)
   unfolding tallied any
   strange-is a [] = sym (or-false (a .strange))
   strange-is a (m ∷ ms) =
       strange-is (added n a (m .from) (m .to) (m .rate)) ms
-      ∙ four (a .strange) (leb n (m .from)) (leb n (m .to)) (namesStrange n ms)
+      ∙ four (a .strange) (leb n (m .from)) (leb n (m .to)) (strangeState n ms)
     where
       four : (x y z w : Bool) → (x || y || z || w) ≡ (x || (y || z || w))
       four true y z w = refl
       four false y z w = refl
 
-  pub own-is : (a : Tally) (ms : List Move) → tallied n a ms .own ≡ (a .own || hasOwn ms)
+  pub own-is : (a : Tally) (ms : List Move) → tallied n a ms .own ≡ (a .own || ownState ms)
   unfolding tallied any
   own-is a [] = sym (or-false (a .own))
   own-is a (m ∷ ms) =
-      own-is (added n a (m .from) (m .to) (m .rate)) ms ∙ or-assoc (a .own) (eqb (m .from) (m .to)) (hasOwn ms)
+      own-is (added n a (m .from) (m .to) (m .rate)) ms ∙ or-assoc (a .own) (eqb (m .from) (m .to)) (ownState ms)
+
+  pub totals-are : (a : Tally) (ms : List Move) → tallied n a ms .totals ≡ totalsOver (a .totals) ms
+  unfolding tallied totalsOver
+  totals-are a [] = refl
+  totals-are a (m ∷ ms) = totals-are (added n a (m .from) (m .to) (m .rate)) ms
 
 -- the states of a move are below 2 ^ 30
 pub record Small (m : Move) : Type 0 where

@@ -3,20 +3,16 @@ use mathlib.Core.Path.{_≡_, refl, sym, _∙_}
 use Prim.Native.Nat.{ℕ, _+_, _-_}
 use native.Mathlib.Omega.{arith}
 use mathlib.Core.Bool.{true, _&&_}
-use lib.ListN.{length, take, drop, length-drop}
+use lib.ListN.{drop, length-drop}
 use Rattle.csl.specs.Text.{Text}
 use Rattle.csl.specs.Moves.{moveLine}
 use Rattle.texts.specs.Cut.{rest-is}
-use Rattle.fields.specs.LineAt.{lineAt, isEndedAt}
-use Rattle.fields.specs.Field.{HasDigits, KnownAt}
-use Rattle.fields.specs.Numbers.{numbersIn, first-passed, last-passed, has-digits}
-use Rattle.packing.specs.Packed.{packed}
+use Rattle.texts.specs.LineAt.{lineAt, isEndedAt}
+use Rattle.texts.specs.Field.{HasDigits, KnownAt}
+use Rattle.texts.specs.Numbers.{numbersIn, first-passed, last-passed, has-digits}
+use Rattle.rate_matrix.specs.Packed.{packed}
 use Rattle.moves.specs.Words.{WordAt}
-use Rattle.moves.proofs.LineLaw.{line-test, Fields, their-move, their-bytes}
-
--- what a part of a text holds
-abbrev rest : Text → ℕ → Text
-rest t a = take (length t - a) (drop a t)
+use Rattle.moves.proofs.LineLaw.{line-test, rest, Fields, their-move, their-bytes}
 
 module _ (t : Text) (h : (isEndedAt t && moveLine (lineAt t)) ≡ true) where
   three : numbersIn 3 t ≡ true

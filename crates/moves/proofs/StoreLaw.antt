@@ -13,17 +13,17 @@ use Rattle.csl.specs.Line.{lineFeed, linesOf}
 use Rattle.csl.specs.Moves.{moveLine, moveOf, movesLayout, movesOf}
 use Rattle.texts.specs.Span.{spanOf}
 use Rattle.texts.specs.Cut.{rest-is, ended-cut, later-cut, later-none}
-use Rattle.fields.specs.LineAt.{lineAt, isEndedAt}
-use Rattle.fields.specs.Lines.{linesPass, nextLine, lines-are, lines-end, pass-more, pass-first}
-use Rattle.fields.specs.Places.{drop-here, drop-none}
-use Rattle.numbers.specs.Table.{Table, table-none, table-more, table-done}
-use Rattle.moves.specs.Words.{noMove, wordOf, WordAt}
+use Rattle.texts.specs.LineAt.{lineAt, isEndedAt}
+use Rattle.texts.specs.Lines.{linesPass, nextLine, lines-are, lines-end, pass-more, pass-first}
+use Rattle.texts.specs.Places.{drop-here, drop-none}
+use Rattle.numbers.specs.Filled.{Table, table-none, table-more, table-done}
+use Rattle.moves.specs.Words.{noMove, moveWord, WordAt}
 
 -- j words are stored, and the text t holds the lines of the rest
 pub record Storing (s : Text) (w₀ w : List ℕ) (t : Text) (j : ℕ) : Type 0 where
   pub left : drop j (movesOf s) ≡ map moveOf (linesOf t)
   pub passes : linesPass moveLine t ≡ true
-  pub table : Table (wordOf s) w₀ w j
+  pub table : Table (moveWord s) w₀ w j
   pub place : j ≤ length (movesOf s)
 
 module _ (s : Text) (w₀ : List ℕ) where
@@ -36,17 +36,17 @@ module _ (s : Text) (w₀ : List ℕ) where
       record {
         left = rw (later-cut s l);
         passes = rw (ended-cut s l, later-cut s l) at y;
-        table = table-none (wordOf s) w₀;
+        table = table-none (moveWord s) w₀;
         place = omega arith;
       }
 
   -- a text with no line feed has no moves
-  pub start-none : length s ≤ spanOf lineFeed s → Table (wordOf s) w₀ w₀ (length (movesOf s))
+  pub start-none : length s ≤ spanOf lineFeed s → Table (moveWord s) w₀ w₀ (length (movesOf s))
   unfolding movesOf
-  start-none h = rw (later-none s h) (table-none (wordOf s) w₀)
+  start-none h = rw (later-none s h) (table-none (moveWord s) w₀)
 
 module _ {s : Text} {w₀ w : List ℕ} {t : Text} {j : ℕ} (v : Storing s w₀ w t j) where
-  pub done : length t ≤ 0 → Table (wordOf s) w₀ w (length (movesOf s))
+  pub done : length t ≤ 0 → Table (moveWord s) w₀ w (length (movesOf s))
   done h = table-done (v .table) (v .place) (drop-none (movesOf s) j (v .left ∙ rw (lines-end t h)))
 
   pub sized : length w ≡ length w₀
@@ -74,7 +74,7 @@ module _ {s : Text} {w₀ w : List ℕ} {t : Text} {j : ℕ} (v : Storing s w₀
 
       pub turn : {n u : ℕ} → WordAt t n u → Storing s w₀ (set w j n) (take (length t - u) (drop u t)) (j + 1)
       turn {n} {u} y =
-          let e : n ≡ wordOf s j = y .word-is ∙ rw (here .1) in
+          let e : n ≡ moveWord s j = y .word-is ∙ rw (here .1) in
           rw (rest-is, y .used-is)
           record {
             left = rw (add-one j) (here .2);

@@ -3,52 +3,49 @@ use Prim.Native.Nat.{ℕ}
 use mathlib.Core.Bool.{Bool, true, false, cond, not, _&&_, _||_}
 use mathlib.Core.List.{List}
 use lib.ListN.{length}
-use lib.Dec.{leb, ltb, eqb}
-use Rattle.csl.specs.Text.{Text, any}
-use Rattle.csl.specs.Limits.{mostRate}
+use Rattle.csl.specs.Text.{Text}
 use Rattle.csl.specs.Moves.{Move, movesHead, movesLayout, movesOf, isRising, ratesOut}
-use Rattle.csl.specs.Laws.Rates.{topFrom}
-use Rattle.moves.specs.declared.Facts.{Facts}
-use Rattle.moves.specs.declared.Tallied.{Tallied}
-use Rattle.moves.specs.declared.Tallied.the-variants.{Lines, Broken}
+use Rattle.csl.specs.Chain.{greatest}
+use Rattle.csl.specs.Refusal.{strangeState, ownState, wrongRate}
+use Rattle.moves.specs.declared.facts.MovesFacts.{MovesFacts}
+use Rattle.moves.specs.declared.tally.Tallied.{Tallied}
+use Rattle.moves.specs.declared.tally.Tallied.the-variants.{Lines, Broken}
 
--- conditions 6, 7 and 9 of a list of moves, n states
-abbrev pub namesStrange : ℕ → List Move → Bool
-namesStrange n ms = any (λ m. leb n (m .from) || leb n (m .to)) ms
+-- the moves rise, and test 9 does not hold
+abbrev pub hasGoodRates : List Move → Bool
+hasGoodRates ms = isRising ms && not (wrongRate ms)
 
-abbrev pub hasOwn : List Move → Bool
-hasOwn ms = any (λ m. eqb (m .from) (m .to)) ms
-
-abbrev pub hasWrongRate : List Move → Bool
-hasWrongRate ms = any (λ m. eqb (m .rate) 0 || ltb mostRate (ratesOut ms (m .from))) ms
+-- the greatest of the states' totals: where the rates are good and all states are known, and 0 elsewhere
+abbrev pub topOf : ℕ → List Move → ℕ
+topOf n ms = cond (strangeState n ms || not (hasGoodRates ms)) 0 (greatest (ratesOut ms) n)
 
 -- the layout is broken: nothing else is said
-abbrev pub broken : Facts
+abbrev pub broken : MovesFacts
 broken = record { layout = false; head = false; count = 0; strange = false; own = false; rising = false; rates = false; top = 0 }
 
 -- the empty text
-abbrev pub bare : Facts
+abbrev pub bare : MovesFacts
 bare = record { layout = true; head = false; count = 0; strange = false; own = false; rising = true; rates = true; top = 0 }
 
--- the facts of moves whose layout is right; `rates` is said of rising moves, and is false of others; `top` likewise, and is 0 of others
-abbrev pub factsIn : ℕ → Bool → List Move → Facts
+-- the facts of moves whose layout is right
+abbrev pub factsIn : ℕ → Bool → List Move → MovesFacts
 factsIn n head ms =
     record {
       layout = true;
       head = head;
       count = length ms;
-      strange = namesStrange n ms;
-      own = hasOwn ms;
+      strange = strangeState n ms;
+      own = ownState ms;
       rising = isRising ms;
-      rates = isRising ms && not (hasWrongRate ms);
-      top = cond (isRising ms) (topFrom (ratesOut ms) ms) 0;
+      rates = hasGoodRates ms;
+      top = topOf n ms;
     }
 
-unfoldable pub factsOf : ℕ → Text → Facts
-factsOf n moves = cond (movesLayout moves) (factsIn n (movesHead moves) (movesOf moves)) broken
+unfoldable pub movesFacts : ℕ → Text → MovesFacts
+movesFacts n moves = cond (movesLayout moves) (factsIn n (movesHead moves) (movesOf moves)) broken
 
 -- the facts that a tally of the lines after the first gives
-abbrev pub factsFrom : Bool → Tallied → Facts
+abbrev pub factsFrom : Bool → Tallied → MovesFacts
 factsFrom head Broken = broken
 factsFrom head (Lines y) =
     record {
@@ -58,6 +55,6 @@ factsFrom head (Lines y) =
       strange = y .strange;
       own = y .own;
       rising = not (y .falling);
-      rates = not (y .falling || y .wrong);
-      top = cond (y .falling) 0 (y .top);
+      rates = not (y .falling || y .totals .wrong);
+      top = cond (y .strange || not (not (y .falling || y .totals .wrong))) 0 (y .totals .top);
     }

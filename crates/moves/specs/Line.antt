@@ -5,9 +5,9 @@ use Rattle.csl.specs.Text.{Text}
 use Rattle.csl.specs.Line.{lineFeed}
 use Rattle.csl.specs.Moves as csl
 use Rattle.texts.specs.Span.{spanOf}
-use Rattle.fields.specs.LineAt.{lineAt, isEndedAt}
-use Rattle.moves.specs.declared.Line.{Line}
-use Rattle.moves.specs.declared.Line.the-variants.{Move, Bad}
+use Rattle.texts.specs.LineAt.{lineAt, isEndedAt}
+use Rattle.moves.specs.declared.lines.Line.{Line}
+use Rattle.moves.specs.declared.lines.Line.the-variants.{Move, Bad}
 
 -- the move m, read from so many bytes
 abbrev pub lineOf : csl.Move → ℕ → Line

@@ -1,4 +1,4 @@
 -- Laws on numbers and lists.
 pub mod Hint
 pub mod Sum
-pub mod Table
+pub mod Filled

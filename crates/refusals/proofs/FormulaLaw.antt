@@ -1,5 +1,5 @@
--- Tests 10 to 14, by what the survey told of the text and by the store of its formula. Assumes nothing.
-use mathlib.Core.Path.{_≡_, refl, sym, _∙_}
+-- Tests 10 to 14, in their order, by what was read of the formula's text. Assumes nothing.
+use mathlib.Core.Path.{_≡_, refl, sym, ap, _∙_}
 use Prim.Native.Nat.{ℕ}
 use mathlib.Core.Bool.{Bool, true, false, not, _||_, true≢false, false≢true}
 use mathlib.Core.List.{List, [], _∷_}
@@ -8,92 +8,88 @@ use lib.ListN.{length}
 use lib.Dec.{ltb}
 use borrow.Author.Tests.{le-leb, ltb-false, not-true, not-false}
 use Rattle.csl.specs.Text.{Text}
+use Rattle.csl.specs.Limits.{mostNodes, mostLevels}
 use Rattle.csl.specs.Formula.{Formula, nodes, levels}
-use Rattle.csl.specs.Refusal.{formulaFrom, isMissing, test, firstOf}
-use Rattle.csl.specs.Laws.Refusal.{neither}
-use Rattle.survey.specs.Size.{extentOf}
-use Rattle.survey.specs.declared.Extent.{Extent}
-use Rattle.store.specs.Pass.{allPassed}
-use Rattle.store.specs.declared.Store.{Store}
-use Rattle.store.specs.declared.Test.the-variants.{Labels, Limits, Load}
-use Rattle.formula.specs.Listed.{storeOf}
+use Rattle.csl.specs.Refusal.{formulaFrom, isMissing, largeFormula, strangeLabel, wrongBound, highLoad, test, formulaTests, firstOf}
+use Rattle.accepted.specs.Order.{neither}
+use Rattle.formula.specs.Reading.{readingOf}
+use Rattle.formula.specs.Pass.{allPassed}
 use Rattle.formula.specs.Stored.{labels-tested, limits-tested, load-tested}
-use Rattle.refusals.specs.Tested.{testsOn, formulaAnswer, formulaTestedOf}
-use Rattle.refusals.specs.declared.FormulaTested.{FormulaTested}
-use Rattle.refusals.specs.declared.FormulaTested.the-variants.{Nodes, Wrong}
+use Rattle.formula.specs.declared.nodes.Nodes.{Nodes}
+use Rattle.formula.specs.declared.reading.Reading.{Reading}
+use Rattle.formula.specs.declared.pass.Test.the-variants.{Labels, Limits, Load}
+use Rattle.refusals.specs.Tested.{testedBy}
+use Rattle.refusals.specs.declared.tested.Tested.{Tested}
+use Rattle.refusals.specs.declared.tested.Tested.the-variants.{Passed, Refused}
 
-module _ (names : List Text) (q : ℕ) (o : Option Formula) (e : Extent) (is : e ≡ extentOf o) where
-  pub at-10 : not (e .readable) ≡ true → Wrong 10 ≡ formulaTestedOf names q o
-  unfolding formulaTestedOf testsOn firstOf isMissing
-  at-10 h = go o (rw is at (not-true (e .readable) h))
-    where
-      go : (p : Option Formula) → extentOf p .readable ≡ false → Wrong 10 ≡ formulaTestedOf names q p
-      go none k = refl
-      go (some f) k = absurd (true≢false k)
+-- the tests of a formula within its size, by its nodes
+abbrev byNodes : ℕ → ℕ → Nodes → Option ℕ
+byNodes names q x =
+    firstOf
+    (test 12 (not (allPassed (Labels names) x)) ∷ test 13 (not (allPassed Limits x)) ∷ test 14 (not (allPassed (Load q) x)) ∷ [])
 
-  module _ (r : not (e .readable) ≡ false) where
-    readable : e .readable ≡ true
-    readable = not-false _ r
+module _ (e : Reading) (names q : ℕ) where
+  -- an answer, whatever text was read over whatever names
+  abbrev pub Answered : Tested → Type 0
+  Answered r = (ns : List Text) (o : Option Formula) → e ≡ readingOf ns o → names ≡ length ns → r ≡ testedBy (firstOf (formulaTests ns q o))
 
-    pub at-11 : (ltb 64 (e .nodes) || ltb 16 (e .levels)) ≡ true → Wrong 11 ≡ formulaTestedOf names q o
-    unfolding formulaTestedOf testsOn firstOf isMissing formulaFrom
-    at-11 h = go o (rw is at readable) (rw is at h)
-      where
-        go : (p : Option Formula) → extentOf p .readable ≡ true → (ltb 64 (extentOf p .nodes) || ltb 16 (extentOf p .levels)) ≡ true
-            → Wrong 11 ≡ formulaTestedOf names q p
-        go none k l = absurd (false≢true k)
-        go (some f) k l = rw l
+  pub at-10 : not (e .readable) ≡ true → Answered (Refused 10)
+  unfolding readingOf formulaTests firstOf isMissing
+  at-10 h ns none is count = refl
+  at-10 h ns (some f) is count = absurd (true≢false (ap (λ (x : Reading). x .readable) (sym is) ∙ not-true _ h))
 
-    module _ (s : (ltb 64 (e .nodes) || ltb 16 (e .levels)) ≡ false) (st : Store) (built : st ≡ storeOf names o) where
-      -- the tests of the store
-      abbrev answered : Store → ℕ → FormulaTested
-      answered x n =
-          formulaAnswer n
-          (firstOf
-          (test 12 (not (allPassed (Labels (length names)) x)) ∷ test 13 (not (allPassed Limits x)) ∷ test 14 (not (allPassed (Load q) x)) ∷ []))
+  module _ (readable : not (e .readable) ≡ false) where
+    unread : {A : Type 0} (ns : List Text) → e ≡ readingOf ns none → A
+    unfolding readingOf
+    unread ns is = absurd (false≢true (ap (λ (x : Reading). x .readable) (sym is) ∙ not-false _ readable))
 
-      of-formula : (f : Formula) → (ltb 64 (nodes f) || ltb 16 (levels f)) ≡ false
-          → answered (storeOf names (some f)) (nodes f) ≡ formulaTestedOf names q (some f)
-      unfolding formulaTestedOf testsOn firstOf isMissing formulaFrom storeOf
-      of-formula f h =
+    pub at-11 : (ltb mostNodes (e .count) || ltb mostLevels (e .levels)) ≡ true → Answered (Refused 11)
+    unfolding readingOf formulaTests firstOf isMissing largeFormula formulaFrom
+    at-11 h ns none is count = unread ns is
+    at-11 h ns (some f) is count = let k : (ltb mostNodes (nodes f) || ltb mostLevels (levels f)) ≡ true = rw is at h in rw k
+
+    module _ (small : (ltb mostNodes (e .count) || ltb mostLevels (e .levels)) ≡ false) where
+      -- what is left is asked of the nodes
+      left : (ns : List Text) (f : Formula) → e ≡ readingOf ns (some f) → names ≡ length ns
+          → firstOf (formulaTests ns q (some f)) ≡ byNodes names q (e .nodes)
+      unfolding readingOf formulaTests firstOf isMissing largeFormula strangeLabel wrongBound highLoad formulaFrom
+      left ns f is count =
+          let k : (ltb mostNodes (nodes f) || ltb mostLevels (levels f)) ≡ false = rw is at small in
           rw (
-            le-leb (nodes f) 64 (ltb-false _ _ (neither (ltb 64 (nodes f)) _ h .0)),
-            le-leb (levels f) 16 (ltb-false _ _ (neither (ltb 64 (nodes f)) _ h .1)),
-            h,
+            is,
+            count,
+            le-leb (nodes f) mostNodes (ltb-false _ _ (neither (ltb mostNodes (nodes f)) _ k .0)),
+            le-leb (levels f) mostLevels (ltb-false _ _ (neither (ltb mostNodes (nodes f)) _ k .1)),
+            k,
             labels-tested,
             limits-tested,
             load-tested,
           )
 
-      by-store : answered st (e .nodes) ≡ formulaTestedOf names q o
-      by-store = rw (built, is) (go o (rw is at readable) (rw is at s))
-        where
-          go : (p : Option Formula) → extentOf p .readable ≡ true → (ltb 64 (extentOf p .nodes) || ltb 16 (extentOf p .levels)) ≡ false
-              → answered (storeOf names p) (extentOf p .nodes) ≡ formulaTestedOf names q p
-          go none k l = absurd (false≢true k)
-          go (some f) k l = of-formula f l
+      by-nodes : {r : Tested} → r ≡ testedBy (byNodes names q (e .nodes)) → Answered r
+      by-nodes h ns none is count = unread ns is
+      by-nodes h ns (some f) is count = h ∙ ap testedBy (sym (left ns f is count))
 
-      module _ (count : ℕ) (all : count ≡ length names) {l : Bool} (labels : l ≡ allPassed (Labels count) st) where
-        pub at-12 : not l ≡ true → Wrong 12 ≡ formulaTestedOf names q o
+      module _ {l : Bool} (labels : l ≡ allPassed (Labels names) (e .nodes)) where
+        pub at-12 : not l ≡ true → Answered (Refused 12)
         unfolding firstOf
-        at-12 h = rw (rw all at (sym labels ∙ not-true _ h)) at by-store
+        at-12 h = by-nodes (rw (sym labels ∙ not-true _ h))
 
-        module _ (t : not l ≡ false) {m : Bool} (limits : m ≡ allPassed Limits st) where
-          labels-pass : allPassed (Labels (length names)) st ≡ true
-          labels-pass = rw all at (sym labels ∙ not-false _ t)
-
-          pub at-13 : not m ≡ true → Wrong 13 ≡ formulaTestedOf names q o
+        module _ (t : not l ≡ false) {m : Bool} (limits : m ≡ allPassed Limits (e .nodes)) where
+          pub at-13 : not m ≡ true → Answered (Refused 13)
           unfolding firstOf
-          at-13 h = rw (labels-pass, sym limits ∙ not-true _ h) at by-store
+          at-13 h = by-nodes (rw (sym labels ∙ not-false _ t, sym limits ∙ not-true _ h))
 
-          module _ (u : not m ≡ false) {k : Bool} (load : k ≡ allPassed (Load q) st) where
-            limits-pass : allPassed Limits st ≡ true
-            limits-pass = sym limits ∙ not-false _ u
-
-            pub at-14 : not k ≡ true → Wrong 14 ≡ formulaTestedOf names q o
+          module _ (u : not m ≡ false) {k : Bool} (load : k ≡ allPassed (Load q) (e .nodes)) where
+            pub at-14 : not k ≡ true → Answered (Refused 14)
             unfolding firstOf
-            at-14 h = rw (labels-pass, limits-pass, sym load ∙ not-true _ h) at by-store
+            at-14 h = by-nodes (rw (sym labels ∙ not-false _ t, sym limits ∙ not-false _ u, sym load ∙ not-true _ h))
 
-            pub at-end : not k ≡ false → Nodes (e .nodes) ≡ formulaTestedOf names q o
+            pub at-end : not k ≡ false → Answered Passed
             unfolding firstOf
-            at-end h = rw (labels-pass, limits-pass, sym load ∙ not-false _ h) at by-store
+            at-end h = by-nodes (rw (sym labels ∙ not-false _ t, sym limits ∙ not-false _ u, sym load ∙ not-false _ h))
+
+-- the answer of what was read of a text, with its nodes
+pub formula-tested : (names : List Text) (o : Option Formula) (q : ℕ) {e : Reading} {count : ℕ} {r : Tested} → e ≡ readingOf names o → count ≡ length names
+    → Answered e count q r → (r ≡ testedBy (firstOf (formulaTests names q o))) × (e .nodes ≡ readingOf names o .nodes)
+formula-tested names o q is all h = (h names o is all, ap (λ (x : Reading). x .nodes) is)

@@ -1,4 +1,5 @@
--- Laws behind the proofs of `refusals`.
+-- Laws behind the proofs of the tests.
+pub mod JudgeLaw
+pub mod SheetLaw
 pub mod FormulaLaw
-pub mod TestLaw
 pub mod ShortLaw

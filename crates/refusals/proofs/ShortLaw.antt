@@ -1,12 +1,14 @@
--- Lengths one by one, and as csl lists them. Assumes nothing.
-use mathlib.Core.Path.{_≡_, refl}
-use Prim.Native.Nat.{ℕ, _+_, _*_, _≤_}
+-- Whether a lent buffer is too short, buffer by buffer. Assumes nothing.
+use mathlib.Core.Path.{_≡_, refl, ap, _∙_}
+use mathlib.Core.Bool.{Bool, true, false, _||_}
+use Prim.Native.Nat.{ℕ, _*_, _≤_}
 use native.Mathlib.Omega.{arith}
 use native.Mathlib.Nat.{mul-le-mul}
-use mathlib.Core.Bool.{Bool, true, false, _||_}
 use lib.Dec.{ltb}
 use Rattle.csl.specs.Text.{any}
+use Rattle.csl.specs.Limits.{mostStates, mostNodes}
 use Rattle.csl.specs.Lent.{Buffers, needed, rooms, isShort}
+use Rattle.vectors.specs.Places.{vectorLength}
 
 in-turn : (a b c d e f : Bool) → ((a || b || c) || (d || e) || f) ≡ (a || (b || (c || (d || (e || (f || false))))))
 in-turn true b c d e f = refl
@@ -17,12 +19,13 @@ in-turn false false false false true f = refl
 in-turn false false false false false true = refl
 in-turn false false false false false false = refl
 
-pub short-listed : (l : Buffers ℕ) (n m k : ℕ)
-    → ((ltb (l .lower) n || ltb (l .upper) n || ltb (l .verdicts) n) || (ltb (l .moves) m || ltb (l .vectors) (10 * n + 512)) || ltb (l .marks) (k * n))
+pub short-listed : (l : Buffers ℕ) (n m k : ℕ) {v : ℕ} → v ≡ vectorLength n
+    → ((ltb (l .lower) n || ltb (l .upper) n || ltb (l .verdicts) n) || (ltb (l .moves) m || ltb (l .vectors) v) || ltb (l .marks) (k * n))
     ≡ isShort l (needed n m k)
 unfolding isShort any rooms
-short-listed l n m k =
-    in-turn (ltb (l .lower) n) (ltb (l .upper) n) (ltb (l .verdicts) n) (ltb (l .moves) m) (ltb (l .vectors) (10 * n + 512)) (ltb (l .marks) (k * n))
+short-listed l n m k e =
+    rw e
+    (in-turn (ltb (l .lower) n) (ltb (l .upper) n) (ltb (l .verdicts) n) (ltb (l .moves) m) (ltb (l .vectors) (vectorLength n)) (ltb (l .marks) (k * n)))
 
-pub few-marks : (n k : ℕ) → n ≤ 512 → k ≤ 64 → k * n ≤ 32768
-few-marks n k h l = omega (arith, mul-le-mul l h)
+pub few-marks : (n k : ℕ) → n ≤ mostStates → k ≤ mostNodes → k * n ≤ mostNodes * mostStates
+few-marks n k h l = mul-le-mul l h

@@ -1,4 +1,4 @@
--- What the tests answer, and what an accepted job keeps.
+-- What the tests answer.
 pub mod Tested
-pub mod FirstLine
-pub mod Kept
+pub mod Sheet
+pub mod Lengths

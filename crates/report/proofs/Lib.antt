@@ -1,4 +1,6 @@
--- Laws that the proofs of the functions lean on.
-mod Parts
-mod Lines
-mod Fits
+-- Laws behind the proofs of `report`.
+mod WritingLaw
+mod DigitsLaw
+mod PartsLaw
+mod LinesLaw
+mod FitsLaw

@@ -6,7 +6,7 @@ use Rattle.csl.specs.Text.{Text}
 use Rattle.csl.specs.Verdicts.{Verdict}
 use Rattle.csl.specs.Report.{rowsText}
 use Rattle.csl.specs.Finished.{Answer, answerText}
-use Rattle.values.specs.Byte.{verdictAt}
+use Rattle.verdicts.specs.Byte.{verdictAt}
 
 -- the number, and the verdict, of a state; a byte over 2 counts as undecided
 abbrev pub entry : List ℕ → ℕ → ℕ

@@ -1,13 +1,19 @@
 // The text that a program prints for the answer to a job.
+mod bytes;
 mod listing;
+mod number;
 mod row;
 
-use values::Answer;
+use bytes::write_byte;
+use bytes::write_bytes;
+use number::decimal_length;
+use number::write_decimal;
+use verdicts::Answer;
 ghost use lib.ListN.{length};
 ghost use lib.Dec.{leb};
 ghost use Rattle.csl.specs.Report.{refusalText};
 ghost use Rattle.csl.specs.Finished.{acceptedWith};
-ghost use Rattle.values.specs.Paper.{answerOf};
+ghost use Rattle.verdicts.specs.Paper.{answerOf};
 ghost use Rattle.report.specs.Rendering.{Rendering, Printed};
 
 // What rendering comes to.
@@ -40,12 +46,12 @@ pub fn render(
 fn render_refusal(out: &mut [u8], number: u64) -> Rendered
     ensures { λ r. ⌜ Rendering (leb (length (refusalText number)) (length (now (out .entry)))) (refusalText number) (now (out .entry)) (now (out .exit)) r ⌝ }
 {
-    if out.len() < writer::decimal_length(number) + 9 {
+    if out.len() < decimal_length(number) + 9 {
         return Rendered::Short;
     }
-    let digits = writer::write_bytes(out, 0, b"refused\n");
-    let end = writer::write_decimal(out, digits, number);
-    Rendered::Text(writer::write_byte(out, end, b'\n'))
+    let digits = write_bytes(out, 0, b"refused\n");
+    let end = write_decimal(out, digits, number);
+    Rendered::Text(write_byte(out, end, b'\n'))
 }
 
 // The text of a report.
@@ -74,6 +80,6 @@ fn render_report(
     if !listing::rows_fit(out.len() - 32, states, depth, lower, upper, verdicts) {
         return Rendered::Short;
     }
-    let first = writer::write_bytes(out, 0, b"state,lower,upper,depth,verdict\n");
+    let first = write_bytes(out, 0, b"state,lower,upper,depth,verdict\n");
     Rendered::Text(listing::write_rows(out, first, states, depth, lower, upper, verdicts))
 }

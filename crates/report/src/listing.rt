@@ -1,11 +1,11 @@
 // The lines of all states.
 use crate::row::row_length;
 use crate::row::write_row;
-use values::Verdict;
+use verdicts::Verdict;
 ghost use mathlib.Core.Path.{_≡_};
 ghost use lib.ListN.{length};
 ghost use lib.Dec.{leb};
-ghost use Rattle.writer.specs.Place.{Room, Wrote};
+ghost use Rattle.report.specs.Place.{Room, Wrote};
 ghost use Rattle.report.specs.Listing.{rows, Complete};
 
 // Whether the lines of the first states take at most `room` bytes.

@@ -1,13 +1,17 @@
 // The line of a state.
-use values::Verdict;
+use crate::bytes::write_byte;
+use crate::bytes::write_bytes;
+use crate::number::decimal_length;
+use crate::number::write_decimal;
+use verdicts::Verdict;
 ghost use mathlib.Core.Path.{_≡_};
 ghost use mathlib.Core.List.{_∷_};
 ghost use Prim.Native.Nat.{_≤_};
 ghost use lib.ListN.{length};
 ghost use Rattle.csl.specs.Line.{comma};
 ghost use Rattle.csl.specs.Report.{decimal, verdictWord, rowText};
-ghost use Rattle.values.specs.Paper.{verdictOf};
-ghost use Rattle.writer.specs.Place.{Room, Wrote};
+ghost use Rattle.verdicts.specs.Paper.{verdictOf};
+ghost use Rattle.report.specs.Place.{Room, Wrote};
 
 // How many bytes a comma and a verdict's word are.
 fn word_length(verdict: Verdict) -> usize
@@ -25,10 +29,10 @@ fn word_length(verdict: Verdict) -> usize
 pub fn row_length(state: usize, lower: u32, upper: u32, depth: u64, verdict: Verdict) -> usize
     ensures { λ r. ⌜ r ≡ length (rowText state lower upper depth (verdictOf verdict)) ⌝ }
 {
-    let first = writer::decimal_length(state as u64);
-    let second = writer::decimal_length(lower as u64);
-    let third = writer::decimal_length(upper as u64);
-    let fourth = writer::decimal_length(depth);
+    let first = decimal_length(state as u64);
+    let second = decimal_length(lower as u64);
+    let third = decimal_length(upper as u64);
+    let fourth = decimal_length(depth);
     first + second + third + fourth + word_length(verdict) + 4
 }
 
@@ -37,8 +41,8 @@ fn write_field(out: &mut [u8], at: usize, number: u64) -> usize
     requires { ⌜ Room at (comma ∷ decimal number) (now out) ⌝ }
     ensures { λ r. ⌜ Wrote at (comma ∷ decimal number) (now (out .entry)) (now (out .exit)) r ⌝ }
 {
-    let digits = writer::write_byte(out, at, b',');
-    writer::write_decimal(out, digits, number)
+    let digits = write_byte(out, at, b',');
+    write_decimal(out, digits, number)
 }
 
 // A comma and a verdict's word.
@@ -47,9 +51,9 @@ fn write_word(out: &mut [u8], at: usize, verdict: Verdict) -> usize
     ensures { λ r. ⌜ Wrote at (comma ∷ verdictWord (verdictOf verdict)) (now (out .entry)) (now (out .exit)) r ⌝ }
 {
     match verdict {
-        Verdict::No => writer::write_bytes(out, at, b",no"),
-        Verdict::Yes => writer::write_bytes(out, at, b",yes"),
-        Verdict::Undecided => writer::write_bytes(out, at, b",undecided"),
+        Verdict::No => write_bytes(out, at, b",no"),
+        Verdict::Yes => write_bytes(out, at, b",yes"),
+        Verdict::Undecided => write_bytes(out, at, b",undecided"),
     }
 }
 
@@ -66,10 +70,10 @@ pub fn write_row(
     requires { ⌜ Room at (rowText state lower upper depth (verdictOf verdict)) (now out) ⌝ }
     ensures { λ r. ⌜ Wrote at (rowText state lower upper depth (verdictOf verdict)) (now (out .entry)) (now (out .exit)) r ⌝ }
 {
-    let first = writer::write_decimal(out, at, state as u64);
+    let first = write_decimal(out, at, state as u64);
     let second = write_field(out, first, lower as u64);
     let third = write_field(out, second, upper as u64);
     let fourth = write_field(out, third, depth);
     let end = write_word(out, fourth, verdict);
-    writer::write_byte(out, end, b'\n')
+    write_byte(out, end, b'\n')
 }

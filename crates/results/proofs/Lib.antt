@@ -1,2 +1,2 @@
--- Laws that the proofs of the functions lean on.
-mod Writing
+-- The law that the proof of `write` leans on.
+mod WriteLaw

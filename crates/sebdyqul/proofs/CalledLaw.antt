@@ -6,11 +6,11 @@ use Prim.Native.Nat.{ℕ, zero, suc, _<_}
 use native.Mathlib.Omega.{arith}
 use Rattle.csl.specs.Lent.{Buffers, lengths}
 use Rattle.csl.specs.Refusal.{Job, refusal, outcome, outcomeBy}
-use Rattle.csl.specs.Laws.Refusal.{refusal-number-some}
+use Rattle.accepted.specs.Job.{refusal-number-some}
 use Rattle.csl.specs.Finished.{Answer, refusedWith, acceptedWith, Finished, FinishedBy}
-use Rattle.values.specs.Paper.{answerOf}
-use Rattle.values.specs.declared.answer.Answer as code
-use Rattle.values.specs.declared.answer.Answer.the-variants.{Accepted, Refused}
+use Rattle.verdicts.specs.Paper.{answerOf}
+use Rattle.verdicts.specs.declared.answer.Answer as code
+use Rattle.verdicts.specs.declared.answer.Answer.the-variants.{Accepted, Refused}
 use Rattle.sebdyqul.specs.Called.{answerFrom, Called}
 
 -- a number other than 0, where an answer is a refusal

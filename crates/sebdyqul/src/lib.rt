@@ -1,5 +1,5 @@
 // The checker for programs in C, Rust and other languages: what `library/sebdyqul.h` declares.
-use values::Answer;
+use verdicts::Answer;
 ghost use Rattle.checker.specs.Job.{job, buffers};
 ghost use Rattle.sebdyqul.specs.Called.{Called};
 
@@ -21,9 +21,13 @@ pub extern "C" fn sebdyqul_check(
     marks: &mut [u8],
     depth: &mut u64,
 ) -> u64
-    ensures { λ r. ⌜ Called (job (now (moves .entry)) (now (labels .entry)) (now (formula .entry))) (buffers (now (lower .entry)) (now (upper .entry)) (now (verdicts .entry)) (now (words .entry)) (now (vectors .entry)) (now (marks .entry))) (now (depth .entry)) r (now (depth .exit)) (buffers (now (lower .exit)) (now (upper .exit)) (now (verdicts .exit)) (now (words .exit)) (now (vectors .exit)) (now (marks .exit))) ⌝ }
+    ensures { λ r. ⌜ Called
+        (job (now (moves .entry)) (now (labels .entry)) (now (formula .entry)))
+        (buffers (now (lower .entry)) (now (upper .entry)) (now (verdicts .entry)) (now (words .entry)) (now (vectors .entry)) (now (marks .entry)))
+        (now (depth .entry)) r (now (depth .exit))
+        (buffers (now (lower .exit)) (now (upper .exit)) (now (verdicts .exit)) (now (words .exit)) (now (vectors .exit)) (now (marks .exit))) ⌝ }
 {
-    match checker::check(
+    let checked = checker::check(
         moves,
         labels,
         formula,
@@ -33,7 +37,9 @@ pub extern "C" fn sebdyqul_check(
         words,
         vectors,
         marks,
-    ) {
+    );
+    let answer = checked.answer;
+    match answer {
         Answer::Accepted(d) => {
             *depth = d;
             0

@@ -1,5 +1,5 @@
 -- What a job whose texts are not turned back has at most, and that the program's buffers are long enough for it. Assumes nothing.
-use mathlib.Core.Path.{_≡_, refl}
+use mathlib.Core.Path.{_≡_}
 use mathlib.Core.Bool.{true, false, and-eq-true-iff}
 use Prim.Native.Nat.{ℕ, _+_, _*_, _≤_, _<_}
 use native.Mathlib.Omega.{arith}
@@ -9,14 +9,15 @@ use lib.Dec.{leb}
 use borrow.Author.Tests.{leb-true, le-ltb}
 use Rattle.csl.specs.Text.{any}
 use Rattle.csl.specs.Limits.{billion, mostRateHours}
-use Rattle.csl.specs.Formula.{Formula, always, label, negated, both, until, nodes, untilsPass}
+use Rattle.csl.specs.Formula.{Formula, always, label, negated, both, chance, Path, until, pathOf, Comparison, nodes, phasesPass, pathsPass}
 use Rattle.csl.specs.Chain.{Chain, topRate, load, depth}
+use Rattle.csl.specs.Path.{meaning}
+use Rattle.csl.specs.Backing.{PathBacked, ChanceKeeps}
 use Rattle.csl.specs.Verdicts.{Verdict, No, Yes, Undecided}
 use Rattle.csl.specs.Report.{Reported, PlainReport, depthOf, lowerOf, upperOf}
 use Rattle.csl.specs.Lent.{Buffers, rooms, isShort}
-use Rattle.csl.specs.Refusal.{Job, jobStates, jobMoves, jobChain, jobFormula, shortBuffer}
-use Rattle.csl.specs.Laws.Refusal.{Passed}
-use Rattle.csl.specs.Laws.Accepted.{few-states, few-moves, few-nodes, loads-kept}
+use Rattle.csl.specs.Refusal.{Job, jobStates, jobMoves, jobChain, jobFormula, inLoad, shortBuffer}
+use Rattle.accepted.specs.Job.{Passed}
 
 module _ (j : Job) (p : Passed j) where
   -- lent buffers of these lengths are long enough
@@ -24,9 +25,9 @@ module _ (j : Job) (p : Passed j) where
       → 5632 ≤ lent .vectors → 32768 ≤ lent .marks → shortBuffer j lent ≡ false
   unfolding shortBuffer isShort rooms any
   none-short lent a b c d e f =
-      let n : jobStates j ≤ 512 = few-states p in
-      let m : length (jobMoves j) ≤ 4096 = few-moves p in
-      let k : nodes (jobFormula j) ≤ 64 = few-nodes p in
+      let n : jobStates j ≤ 512 = p .sheet .sound .few-states in
+      let m : length (jobMoves j) ≤ 4096 = p .sheet .sound .few-moves in
+      let k : nodes (jobFormula j) ≤ 64 = p .formula .fitting .few-nodes in
       simp (
         le-ltb (lent .lower) (jobStates j) (omega arith),
         le-ltb (lent .upper) (jobStates j) (omega arith),
@@ -37,22 +38,23 @@ module _ (j : Job) (p : Passed j) where
       )
 
 -- the depth of a load that is not too high
-depth-low : (c : Chain) (t : ℕ) → topRate c * t ≤ 64000000 → depth c t ≤ 168
+depth-low : (c : Chain) (t : ℕ) → topRate c * t ≤ mostRateHours → depth c t ≤ 168
 unfolding depth load
 depth-low c t h = omega arith
 
-depth-within : (c : Chain) (f : Formula) → untilsPass (λ p t. leb (topRate c * t) mostRateHours) f ≡ true → depthOf c f ≤ 168
-unfolding depthOf untilsPass
+path-within : (c : Chain) (w : Path) → phasesPass (λ t. leb (topRate c * t) mostRateHours) (pathOf w) ≡ true → meaning c (pathOf w) .depth ≤ 168
+path-within c (until t a b) h = depth-low c t (leb-true (topRate c * t) mostRateHours h)
+
+depth-within : (c : Chain) (f : Formula) → pathsPass (inLoad (topRate c)) f ≡ true → depthOf c f ≤ 168
+unfolding depthOf pathsPass
 depth-within c always h = omega arith
 depth-within c (label w) h = omega arith
 depth-within c (negated a) h = omega arith
 depth-within c (both a b) h = omega arith
-depth-within c (until r p t a b) h =
-    let i = and-eq-true-iff (leb (topRate c * t) mostRateHours) _ .0 (and-eq-true-iff _ _ .0 h .0) .0 in
-    depth-low c t (leb-true (topRate c * t) mostRateHours i)
+depth-within c (chance r p w) h = path-within c w (and-eq-true-iff (phasesPass (λ t. leb (topRate c * t) mostRateHours) (pathOf w)) _ .0 h .0)
 
 pub depth-few : (j : Job) → Passed j → depthOf (jobChain j) (jobFormula j) ≤ 168
-depth-few j p = depth-within (jobChain j) (jobFormula j) (loads-kept p (topRate (jobChain j)) refl)
+depth-few j p = depth-within (jobChain j) (jobFormula j) (p .formula .fitting .loads)
 
 -- "Ends lie from 0 to 1,000,000,000."
 pub record InRange (lower upper : ℕ) : Type 0 where
@@ -68,9 +70,12 @@ module _ (c : Chain) (lower upper : ℕ → ℕ) (v : ℕ → Verdict) (s : ℕ)
   plain-in-range : (f : Formula) → PlainReport c f lower upper v → InRange (lower s) (upper s)
   plain-in-range f k = rw (k .lowers s b, k .uppers s b) (of-verdict (v s))
 
+  path-in-range : (w : Path) (r : Comparison) (p : ℕ) → PathBacked c w (ChanceKeeps c r p lower upper v) → InRange (lower s) (upper s)
+  path-in-range (until t a e) r p k = record { low = k .keeps .ends s b .lower-range; high = k .keeps .ends s b .upper-range }
+
   pub ends-in-range : (f : Formula) → Reported c f lower upper v → InRange (lower s) (upper s)
   ends-in-range always k = plain-in-range always k
   ends-in-range (label w) k = plain-in-range (label w) k
   ends-in-range (negated a) k = plain-in-range (negated a) k
   ends-in-range (both a e) k = plain-in-range (both a e) k
-  ends-in-range (until r p t a e) k = record { low = k .ends s b .lower-range; high = k .ends s b .upper-range }
+  ends-in-range (chance r p w) k = path-in-range w r p k

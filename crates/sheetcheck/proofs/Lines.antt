@@ -7,7 +7,7 @@ use lib.ListN.{length, length-append}
 use Rattle.csl.specs.Text.{bytes}
 use Rattle.csl.specs.Verdicts.{Verdict, No, Yes, Undecided}
 use Rattle.csl.specs.Report.{verdictWord, rowText, rowsText, reportText, refusalText}
-use Rattle.writer.specs.Decimal.{length-within}
+use Rattle.report.specs.Decimal.{length-within}
 use Rattle.sheetcheck.proofs.Limits.{InRange}
 
 -- the longest word is `undecided`

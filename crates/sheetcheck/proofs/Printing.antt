@@ -12,15 +12,14 @@ use Rattle.csl.specs.Text.{Text}
 use Rattle.csl.specs.Chain.{chainOf}
 use Rattle.csl.specs.Report.{reportText, refusalText, depthOf}
 use Rattle.csl.specs.Lent.{Buffers, lengths, verdictByte, column, written, filled}
-use Rattle.csl.specs.Refusal.{Job, jobStates, jobChain, jobFormula, textRefusal}
+use Rattle.csl.specs.Refusal.{Job, jobStates, jobChain, jobFormula, textRefusal, outcome}
 use Rattle.csl.specs.Finished.{Answer, Accepted, TurnedBack, Finished, FinishedBy, answerText}
-use Rattle.csl.specs.Laws.Refusal.{passed, refused-by-texts, accepted-by-all, refusal-number-few}
-use Rattle.csl.specs.Laws.Accepted.{labels-layout, few-states}
+use Rattle.accepted.specs.Job.{passed, refused-by-texts, accepted-by-all, text-number-most}
 use Rattle.io.specs.Counts.{Counts}
 use Rattle.io.proofs.Counting.{counts}
-use Rattle.values.specs.Byte.{verdictAt, byte-read}
-use Rattle.labels.specs.Facts.{factsOf}
+use Rattle.verdicts.specs.Byte.{verdictAt, byte-read}
 use Rattle.results.specs.Column.{column-length, written-length, written-at}
+use Rattle.checker.specs.Job.{statesIn}
 use Rattle.report.specs.declared.Rendered.{Rendered}
 use Rattle.report.specs.declared.Rendered.the-variants as rendered
 use Rattle.report.specs.Listing.{listing, entry, verdictIn}
@@ -64,13 +63,13 @@ module _ (j : Job) (before after : Buffers (List ℕ)) (a : Answer) (n : ℕ) (o
   unfolding Prints answerText
   refusal-text k e t =
       fitting-text j n a (after .lower) (after .upper) (after .verdicts) old new r (refusalText k) (rw (t .answer) refl) (rw (t .answer) refl)
-      (omega (arith, refusal-few k (refusal-number-few j k e))) (rw e refl) (rw (t .answer, e) refl) p
+      (omega (arith, refusal-few k (text-number-most j k e))) (rw e refl) (rw (t .answer, e) refl) p
 
   -- a report
   module _ (e : textRefusal j ≡ none) (here : n ≡ jobStates j) (lent : Roomy before)
       (t : Accepted j (jobChain j) (jobFormula j) (depthOf (jobChain j) (jobFormula j)) before a after) where
     few : n ≤ 512
-    few = omega (arith, few-states (passed j e))
+    few = omega (arith, passed j e .sheet .sound .few-states)
 
     lower-is : after .lower ≡ written (column (t .lower) n) (before .lower)
     unfolding filled
@@ -122,16 +121,17 @@ module _ (j : Job) (before after : Buffers (List ℕ)) (a : Answer) (n : ℕ) (o
         (omega (arith, report-few n (t .lower) (t .upper) (depthOf (jobChain j) (jobFormula j)) (t .verdict) few in-range (depth-few j (passed j e))))
         (rw e (record { lower = t .lower; upper = t .upper; verdict = t .verdict; reported = t .reported; lines = rw here refl })) (rw (t .answer, e) refl) p
 
-  -- either, where n is what is read of the labels
-  pub answer-text : Finished j before a after → n ≡ factsOf (j .labels) .states → Roomy before → TextFor j a old new r
-  unfolding Finished FinishedBy factsOf
+  -- either, where n is how many states the outcome has
+  pub answer-text : Finished j before a after → n ≡ statesIn (outcome j (lengths before)) → Roomy before → TextFor j a old new r
+  unfolding Finished FinishedBy chainOf
   answer-text f s lent = go (textRefusal j) refl
     where
       go : (o : Option ℕ) → textRefusal j ≡ o → TextFor j a old new r
       go (some k) e = refusal-text k e (rw (refused-by-texts j (lengths before) k e) at f)
       go none e =
           let q = none-short j (passed j e) (lengths before) (lent .lowers) (lent .uppers) (lent .bytes) (lent .words) (lent .vectors) (lent .marks) in
-          report-text e (s ∙ rw (labels-layout (passed j e)) refl) lent (rw (accepted-by-all j (lengths before) e q) at f)
+          let o = accepted-by-all j (lengths before) e q in
+          report-text e (s ∙ ap statesIn o) lent (rw o at f)
 
 -- what is answered: the text's length and the number
 pub text-answered : {j : Job} {a : Answer} {old new : List ℕ} {r : Rendered} (w : Written) → TextFor j a old new r → w .length ≡ lengthOf r

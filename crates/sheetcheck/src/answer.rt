@@ -1,11 +1,11 @@
 // The text that is printed for a job.
 use report::Rendered;
-use values::Answer;
+use verdicts::Answer;
 ghost use mathlib.Core.Path.{_≡_};
 ghost use Prim.Native.Nat.{_≤_};
 ghost use lib.ListN.{length};
 ghost use Rattle.io.specs.Counts.{Counts};
-ghost use Rattle.values.specs.Paper.{answerOf};
+ghost use Rattle.verdicts.specs.Paper.{answerOf};
 ghost use Rattle.checker.specs.Job.{job};
 ghost use Rattle.sheetcheck.specs.Prints.{Answered, lengthOf, numberIn};
 
@@ -34,7 +34,7 @@ pub fn write_answer(moves: &[u8], labels: &[u8], formula: &[u8], out: &mut [u8])
     let mut words = [0u64; 4096];
     let mut vectors = [0u64; 5632];
     let mut marks = [0u8; 32768];
-    let answer = checker::check(
+    let checked = checker::check(
         moves,
         labels,
         formula,
@@ -45,8 +45,8 @@ pub fn write_answer(moves: &[u8], labels: &[u8], formula: &[u8], out: &mut [u8])
         &mut vectors,
         &mut marks,
     );
-    let facts = labels::read(labels);
-    let rendered = report::render(out, facts.states, answer, &lower, &upper, &verdicts);
+    let answer = checked.answer;
+    let rendered = report::render(out, checked.states, answer, &lower, &upper, &verdicts);
     Written {
         length: length_of(rendered),
         number: number_in(answer),

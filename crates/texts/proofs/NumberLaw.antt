@@ -11,8 +11,8 @@ use Rattle.csl.specs.Text.{Text, every}
 use Rattle.csl.specs.Number.{isDigit, isNumber, zeroLed}
 use Rattle.texts.specs.Digits.{digitRun, numberAt, settled, NumberFits}
 use Rattle.texts.specs.Counting.{digit-within, Counting, Counted, one-more, counted, fits}
-use Rattle.texts.specs.declared.Num.{Num}
-use Rattle.texts.specs.declared.Num.the-variants.{Value, Bad}
+use Rattle.texts.specs.declared.digits.Num.{Num}
+use Rattle.texts.specs.declared.digits.Num.the-variants.{Value, Bad}
 
 run-digits : (s : Text) → every isDigit (digitRun s) ≡ true
 unfolding every digitRun

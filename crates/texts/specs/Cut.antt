@@ -1,75 +1,40 @@
 -- How the parts, lines and fields of a text are cut off its start, by `spanOf`. Assumes nothing.
 use mathlib.Core.Path.{_≡_, refl, sym, _∙_}
-use Prim.Native.Nat.{ℕ, suc, _+_, _-_, _≤_, _<_}
+use Prim.Native.Nat.{ℕ, _+_, _-_, _≤_, _<_}
 use native.Mathlib.Omega.{arith}
 use native.Mathlib.Numerals.{add-one}
-use mathlib.Core.Bool.{Bool, true, false, cond}
-use mathlib.Core.List.{List, [], _∷_, headD}
-use lib.ListN.{length, take, drop, getD, drop-of-length-le, length-drop}
+use mathlib.Core.List.{[], _∷_, headD}
+use lib.ListN.{length, take, drop, drop-of-length-le, length-drop}
 use lib.Seq.{drop-cons, take-all}
 use lib.Dec.{eqb, eqb·suc-zero}
-use borrow.Author.Tests.{eqb-true}
 use Rattle.csl.specs.Text.{Text}
-use Rattle.csl.specs.Line.{lineFeed, ahead, parts, endedParts, noRemnant, linesOf, isEnded, firstLine, laterLines}
+use Rattle.csl.specs.Line.{lineFeed, parts, endedParts, noRemnant, linesOf, isEnded, firstLine, laterLines}
 use Rattle.texts.specs.Span.{spanOf}
+use Rattle.texts.specs.Behind.{partsBehind, parts-first}
 
 -- what the part `&s[a..]` holds
 pub rest-is : (s : Text) (a : ℕ) → take (length s - a) (drop a s) ≡ drop a s
 rest-is s a = take-all (length s - a) (drop a s) (omega (arith, length-drop a s))
 
-pub span-within : (mark : ℕ) (s : Text) → spanOf mark s ≤ length s
-unfolding spanOf
-span-within mark [] = omega arith
-span-within mark (b ∷ s) = go (eqb b mark) (span-within mark s)
-  where
-    go : (p : Bool) → spanOf mark s ≤ length s → cond p 0 (suc (spanOf mark s)) ≤ suc (length s)
-    go true ih = omega arith
-    go false ih = omega arith
-
--- at the span stands the mark
-pub span-mark : (mark : ℕ) (s : Text) → spanOf mark s < length s → getD s (spanOf mark s) 0 ≡ mark
-unfolding spanOf
-span-mark mark [] h = absurd (omega arith)
-span-mark mark (b ∷ s) h = go (eqb b mark) refl h (span-mark mark s)
-  where
-    go : (p : Bool) → eqb b mark ≡ p → cond p 0 (suc (spanOf mark s)) < suc (length s)
-        → (spanOf mark s < length s → getD s (spanOf mark s) 0 ≡ mark) → getD (b ∷ s) (cond p 0 (suc (spanOf mark s))) 0 ≡ mark
-    go true e l ih = eqb-true _ _ e
-    go false e l ih = ih (omega arith)
-
--- the parts behind the first, from its mark on
-abbrev pub after : ℕ → Text → List Text
-after mark [] = []
-after mark (b ∷ t) = parts mark t
-
-pub first-part : (mark : ℕ) (s : Text) → parts mark s ≡ take (spanOf mark s) s ∷ after mark (drop (spanOf mark s) s)
-unfolding parts spanOf ahead
-first-part mark [] = refl
-first-part mark (b ∷ s) = go (eqb b mark) (first-part mark s)
-  where
-    go : (p : Bool) → parts mark s ≡ take (spanOf mark s) s ∷ after mark (drop (spanOf mark s) s)
-        → cond p ([] ∷ parts mark s) (ahead b (parts mark s))
-        ≡ take (cond p 0 (suc (spanOf mark s))) (b ∷ s) ∷ after mark (drop (cond p 0 (suc (spanOf mark s))) (b ∷ s))
-    go true ih = refl
-    go false ih = rw ih
-
 -- where the mark stands, and where it does not
 pub parts-cut : (mark : ℕ) (s : Text) → spanOf mark s < length s
     → parts mark s ≡ take (spanOf mark s) s ∷ parts mark (drop (spanOf mark s + 1) s)
-parts-cut mark s h = first-part mark s ∙ rw (add-one, drop-cons s (spanOf mark s) 0 h)
+unfolding partsBehind
+parts-cut mark s h = parts-first mark s ∙ rw (add-one, drop-cons s (spanOf mark s) 0 h)
 
 pub parts-whole : (mark : ℕ) (s : Text) → length s ≤ spanOf mark s → parts mark s ≡ s ∷ []
-parts-whole mark s h = first-part mark s ∙ rw (drop-of-length-le s h, take-all (spanOf mark s) s h)
+unfolding partsBehind
+parts-whole mark s h = parts-first mark s ∙ rw (drop-of-length-le s h, take-all (spanOf mark s) s h)
 
 -- a part more in front
 ended-more : (p : Text) (mark : ℕ) (s : Text) → endedParts (p ∷ parts mark s) ≡ p ∷ endedParts (parts mark s)
 unfolding endedParts
-ended-more p mark s = rw first-part
+ended-more p mark s = rw parts-first
 
 remnant-more : (p : Text) (mark : ℕ) (s : Text) → noRemnant (p ∷ parts mark s) ≡ noRemnant (parts mark s)
 unfolding noRemnant
-remnant-more [] mark s = rw first-part
-remnant-more (b ∷ p) mark s = rw first-part
+remnant-more [] mark s = rw parts-first
+remnant-more (b ∷ p) mark s = rw parts-first
 
 pub lines-cut : (t : Text) → spanOf lineFeed t < length t → linesOf t ≡ take (spanOf lineFeed t) t ∷ linesOf (drop (spanOf lineFeed t + 1) t)
 unfolding linesOf

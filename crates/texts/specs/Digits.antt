@@ -6,8 +6,8 @@ use lib.ListN.{length, getD}
 use lib.Dec.{leb, ltb, eqb}
 use Rattle.csl.specs.Text.{Text}
 use Rattle.csl.specs.Number.{isDigit, isNumber, valueOf}
-use Rattle.texts.specs.declared.Num.{Num}
-use Rattle.texts.specs.declared.Num.the-variants.{Value, Bad}
+use Rattle.texts.specs.declared.digits.Num.{Num}
+use Rattle.texts.specs.declared.digits.Num.the-variants.{Value, Bad}
 
 -- the digits at the start
 unfoldable pub digitRun : Text → Text

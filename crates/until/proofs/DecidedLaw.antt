@@ -1,25 +1,17 @@
--- Tests of verdict bytes, and rows in which none is undecided. Assumes nothing.
+-- Rows of verdict bytes in which none is undecided. Assumes nothing.
 use mathlib.Core.Path.{_≡_, refl, sym}
 use mathlib.Core.Bool.{Bool, true, false, _&&_, and-false, and-eq-true-iff}
 use mathlib.Core.List.{List}
 use Prim.Native.Nat.{ℕ, zero, suc, _+_, _≤_, _<_}
 use native.Mathlib.Omega.{arith}
 use native.Mathlib.Numerals.{add-one}
-use lib.Dec.{eqb, leb, ltb}
-use borrow.Author.Tests.{eq-eqb, ne-eqb, le-leb, lt-leb, leb-true, ltb-true, ltb-false}
+use lib.Dec.{leb, ltb}
+use borrow.Author.Tests.{le-leb, lt-leb, leb-true, ltb-true, ltb-false}
 use Rattle.csl.specs.Verdicts.{asNo, asYes}
-use Rattle.bounds.specs.Values.{verdictAt}
-use Rattle.rows.specs.Words.{at}
-use Rattle.step.specs.Value.{verdicts}
+use Rattle.bounds.specs.StepValues.{verdictAt}
+use Rattle.vectors.specs.Places.{at}
+use Rattle.until.specs.Reading.{verdicts}
 use Rattle.until.specs.Asked.{DecidedAsked, bothDecided}
-
-pub both-first : (f g : ℕ) → f ≡ 0 → eqb g 0 ≡ (eqb f 0 && eqb g 0)
-both-first f g h = rw (eq-eqb f 0 h) refl
-
-pub both-not : (f g : ℕ) → (f ≡ 0 → ⊥) → eqb f 0 ≡ (eqb f 0 && eqb g 0)
-both-not f g h = rw (ne-eqb f 0 h) refl
-
-pub ruleset byte-laws = (both-first, both-not)
 
 -- where a byte is undecided the rows stay so
 open-on : (first second : List ℕ) (s n : ℕ) → bothDecided first second s ≡ false → s ≤ n → bothDecided first second n ≡ false

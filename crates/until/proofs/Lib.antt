@@ -1,12 +1,12 @@
 -- Laws behind the proofs of `until`.
-pub mod LastLaw
-pub mod EndsLaw
+pub mod HeldLaw
+pub mod LayLaw
+pub mod RunLaw
 pub mod DecidedLaw
-pub mod GatherLaw
-pub mod LowerLaw
-pub mod IntervalsLaw
-pub mod StillLaw
 pub mod ReadLaw
-pub mod WeighLaw
+pub mod EndsLaw
+pub mod PointLaw
+pub mod StillLaw
+pub mod BothLaw
 pub mod SummedLaw
 pub mod UntilLaw

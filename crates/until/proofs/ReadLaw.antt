@@ -2,8 +2,9 @@
 use mathlib.Core.Path.{_≡_, refl, ap, sym, _∙_}
 use mathlib.Core.Bool.{Bool, true, false, not, _||_}
 use mathlib.Core.List.{List}
-use Prim.Native.Nat.{ℕ, _+_, _*_, _-_, _<_}
+use Prim.Native.Nat.{ℕ, _+_, _*_, _-_, _≤_, _<_}
 use native.Mathlib.Omega.{arith}
+use native.Mathlib.Nat.{add-zero}
 use lib.Dec.{ltb}
 use lib.ListN.{length}
 use borrow.Author.Tests.{lt-ltb, le-ltb}
@@ -11,78 +12,110 @@ use Rattle.csl.specs.Phase.{bit}
 use Rattle.csl.specs.Verdicts.{asNo, asYes}
 use Rattle.numbers.specs.Sum.{sum-cong}
 use Rattle.bounds.specs.Unit.{one, part}
-use Rattle.rows.specs.Words.{at, exitOf}
-use Rattle.step.specs.Value.{verdicts, readAs, readPhase, lowPhase, highPhase, heldOf, stayOf, startOf, valueOf, nextAt, heldAt}
-use Rattle.step.specs.Bound.{bit-most, run-cong}
-use Rattle.sums.specs.Asked.{BeginAsked, Begun, RunAsked, runAt, Ran}
+use Rattle.rate_matrix.specs.Words.{exitOf}
+use Rattle.vectors.specs.Places.{at, weightsFrom, valueAt, nextAt, stayAt, heldAt, exitAt, weightAt}
+use Rattle.vectors.specs.Prepared.{rates-kept, rates-slow, rates-small}
+use Rattle.phase.specs.Value.{heldOf, stayOf, startOf, valueOf}
+use Rattle.phase.specs.Bound.{bit-most, run-cong}
+use Rattle.phase.specs.Steps.{BeginAsked, Begun}
+use Rattle.until.specs.Reading.{verdicts, readAs, readPhase, lowPhase, highPhase}
+use Rattle.until.specs.Run.{RunAsked, runAt, Ran}
+use Rattle.until.specs.Asked.{LayAsked, Laid, DecidedAsked, bothDecided, ReadAsked, Read, HighAsked}
 use Rattle.until.proofs.DecidedLaw.{first-same, second-same}
-use Rattle.until.specs.Asked.{DecidedAsked, bothDecided, ReadAsked, Read, HighAsked}
 
 -- what stays put says whether a value is held
 stay-held : (q e : ℕ) (b : Bool) → ltb q (stayOf q e b) ≡ b
 stay-held q e true = lt-ltb q (q + 1) (omega arith)
 stay-held q e false = le-ltb q (q - e) (omega arith)
 
+-- the weight of step 0
+first-weight : (l : List ℕ) (n : ℕ) → weightAt l n 0 ≡ at l (weightsFrom n)
+first-weight l n = ap (at l) (add-zero (weightsFrom n))
+
 module _ {mv l first second : List ℕ} {n q last : ℕ} (p : ReadAsked mv l first second n q last) where
-  pub may-begin : BeginAsked l first second n q
-  may-begin =
+  pub may-lay : LayAsked l first second n q
+  may-lay =
       record {
-        states = p .sheet .lines .states;
-        room = omega (arith, p .sheet .room);
+        states = p .rates .lines .states;
+        long = p .rates .long;
         in-first = p .in-first;
         in-second = p .in-second;
-        exits = λ s h. record { slow = rw (p .sheet .exits s h) (p .sheet .slow s h); small = p .sheet .small };
+        exits = λ s h. record { slow = rw (p .rates .exits s h) (rates-slow (p .rates) s h); small = rates-small (p .rates) };
       }
 
-  module _ {b : Bool} {x : List ℕ} (i : Begun first second n q b l x) where
-    held-is : (s : ℕ) → s < n → heldAt x n q s ≡ heldOf (readPhase b first second) s
-    held-is s h = rw (i .stays s h) (stay-held q (at l (6 * n + s)) (heldOf (readPhase b first second) s))
+  module _ {b : Bool} {x : List ℕ} (i : Laid first second n q b l x) where
+    -- values of 0 and 1
+    start-most : (s : ℕ) → s < n → nextAt x n s ≤ one
+    start-most s h = rw (i .values s h) (omega (arith, bit-most (readAs b (verdicts second s))))
 
-    stays-is : (s : ℕ) → s < n → heldAt x n q s ≡ false → at x (5 * n + s) ≡ q - exitOf mv (length mv) s
-    stays-is s h e = i .stays s h ∙ rw (sym (held-is s h) ∙ e, p .sheet .exits s h) refl
+    weight-laid : (k : ℕ) → weightAt x n k ≡ weightAt l n k
+    weight-laid k = i .after (8 * n + k) (omega arith)
 
-    pub may-run : RunAsked mv x n q last
-    may-run =
+    pub may-begin : BeginAsked x n
+    may-begin =
         record {
-          sheet = record {
-            lines = p .sheet .lines;
-            room = omega (arith, i .same, p .sheet .room);
-            exits = λ s h. i .after (6 * n + s) (omega arith) ∙ p .sheet .exits s h;
-            ends = λ s h. i .after (7 * n + s) (omega arith) ∙ p .sheet .ends s h;
-            slow = p .sheet .slow;
-            some = p .sheet .some;
-            small = p .sheet .small;
-          };
-          values = λ s h. rw (i .values s h) (omega (arith, bit-most (readAs b (verdicts second s))));
-          sums = i .sums;
-          stays = stays-is;
-          room = omega (arith, i .same, p .room);
-          limit = p .limit;
-          weights = λ k h. rw (i .after (8 * n + k) (omega arith)) (p .weights k h);
+          states = p .rates .lines .states;
+          long = omega (arith, i .same, p .rates .long);
+          weight = rw (sym (first-weight x n), weight-laid 0) (p .weights 0 (omega arith));
+          values = start-most;
         }
 
-    -- the values of the run are those of the phase
-    run-is : (k s : ℕ) → s < n → runAt mv x n q k s ≡ valueOf mv (length mv) q (readPhase b first second) k s
-    run-is =
-        run-cong mv (length mv) n q (p .sheet .lines .targets) (nextAt x n) (startOf (readPhase b first second)) (heldAt x n q)
-        (heldOf (readPhase b first second)) (i .values) held-is
+    module _ {y : List ℕ} (g : Begun n x y) where
+      kept : (k : ℕ) → 6 * n ≤ k → (k ≡ 9 * n + 511 → ⊥) → at y k ≡ at l k
+      kept k h c = g .after k (omega arith) c ∙ i .after k h
 
-    pub is-read : {y : List ℕ} → Ran mv n q last x y → Read mv first second n q last b l y
-    is-read {y} r =
-        record {
-          same = r .same ∙ i .same;
-          sums = λ s h. r .sums s h
-              ∙ sum-cong (λ k. part (at x (8 * n + k)) (runAt mv x n q k s))
-              (λ k. part (at l (8 * n + k)) (valueOf mv (length mv) q (readPhase b first second) k s)) (last + 1)
-              (λ k c. rw (i .after (8 * n + k) (omega arith), run-is k s h) refl);
-          before = λ k h. r .before k h ∙ i .before k (omega arith);
-          after = λ k h. r .after k (omega arith) ∙ i .after k h;
-        }
+      stay-is : (s : ℕ) → s < n → stayAt y n s ≡ stayAt x n s
+      stay-is s h = g .after (5 * n + s) (omega arith) (omega arith)
 
-    pub read-length : {y : List ℕ} → Ran mv n q last x y → length y ≡ length l
-    read-length r = r .same ∙ i .same
+      held-is : (s : ℕ) → s < n → heldAt y n q s ≡ heldOf (readPhase b first second) s
+      held-is s h = rw (stay-is s h, i .stays s h) (stay-held q (exitAt l n s) (heldOf (readPhase b first second) s))
 
-pub ruleset read-laws = (may-begin, may-run, is-read, read-length)
+      stays-is : (s : ℕ) → s < n → heldAt y n q s ≡ false → stayAt y n s ≡ q - exitOf mv (length mv) s
+      stays-is s h e = stay-is s h ∙ i .stays s h ∙ rw (sym (held-is s h) ∙ e, p .rates .exits s h) refl
+
+      weight-is : (k : ℕ) → k ≤ last → weightAt y n k ≡ weightAt l n k
+      weight-is k h = kept (8 * n + k) (omega arith) (omega (arith, p .room))
+
+      pub may-run : RunAsked mv y n q last
+      may-run =
+          record {
+            moving = record {
+              rates = rates-kept (p .rates) (g .same ∙ i .same) (λ k h c. kept k h (omega arith));
+              some = p .some;
+              values = λ s h. rw (g .values s h) (start-most s h);
+              stays = stays-is;
+            };
+            number = g .number;
+            next = λ s h. g .next s h ∙ sym (g .values s h);
+            sums = λ s h. g .sums s h
+                ∙ rw (weight-is 0 (omega arith), g .values s h, ← weight-laid 0, first-weight x n) refl;
+            limit = p .limit;
+            room = p .room;
+            weights = λ k h. rw (weight-is k h) (p .weights k h);
+          }
+
+      -- the values of the run are those of the phase
+      run-is : (k s : ℕ) → s < n → runAt mv y n q k s ≡ valueOf mv (length mv) q (readPhase b first second) k s
+      run-is =
+          run-cong mv (length mv) n q (p .rates .lines .targets) (valueAt y n) (startOf (readPhase b first second)) (heldAt y n q)
+          (heldOf (readPhase b first second)) (λ s h. g .values s h ∙ i .values s h) held-is
+
+      pub is-read : {z : List ℕ} → Ran mv n q last y z → Read mv first second n q last b l z
+      is-read r =
+          record {
+            same = r .same ∙ g .same ∙ i .same;
+            sums = λ s h. r .sums s h
+                ∙ sum-cong (λ k. part (weightAt y n k) (runAt mv y n q k s))
+                (λ k. part (weightAt l n k) (valueOf mv (length mv) q (readPhase b first second) k s)) (last + 1)
+                (λ k c. rw (weight-is k (omega arith), run-is k s h) refl);
+            before = λ k h. r .before k h ∙ g .before k h ∙ i .before k (omega arith);
+            after = λ k h c. r .after k (omega arith) c ∙ kept k h c;
+          }
+
+      pub read-length : {z : List ℕ} → Ran mv n q last y z → length z ≡ length l
+      read-length r = r .same ∙ g .same ∙ i .same
+
+pub ruleset read-laws = (may-lay, may-begin, may-run, is-read, read-length)
 
 module _ {mv l first second : List ℕ} {n q last : ℕ} (p : HighAsked mv l first second n q last) where
   pub may-look : DecidedAsked first second n
@@ -98,7 +131,7 @@ module _ {mv l first second : List ℕ} {n q last : ℕ} (p : HighAsked mv l fir
 
     values-same : (k s : ℕ) → s < n → valueOf mv (length mv) q (lowPhase first second) k s ≡ valueOf mv (length mv) q (highPhase first second) k s
     values-same =
-        run-cong mv (length mv) n q (p .asked .sheet .lines .targets) (startOf (lowPhase first second)) (startOf (highPhase first second))
+        run-cong mv (length mv) n q (p .asked .rates .lines .targets) (startOf (lowPhase first second)) (startOf (highPhase first second))
         (heldOf (lowPhase first second)) (heldOf (highPhase first second))
         (λ s h. ap (λ (x : Bool). one * bit x) (second-same first second n decided s h))
         (λ s h. ap (λ (x : Bool). x || not (asNo (verdicts first s) || x)) (second-same first second n decided s h)
@@ -109,11 +142,11 @@ module _ {mv l first second : List ℕ} {n q last : ℕ} (p : HighAsked mv l fir
         record {
           same = refl;
           sums = λ s h. p .sums s h
-              ∙ sum-cong (λ k. part (at l (8 * n + k)) (valueOf mv (length mv) q (lowPhase first second) k s))
-              (λ k. part (at l (8 * n + k)) (valueOf mv (length mv) q (highPhase first second) k s)) (last + 1)
-              (λ k c. ap (λ (x : ℕ). part (at l (8 * n + k)) x) (values-same k s h));
+              ∙ sum-cong (λ k. part (weightAt l n k) (valueOf mv (length mv) q (lowPhase first second) k s))
+              (λ k. part (weightAt l n k) (valueOf mv (length mv) q (highPhase first second) k s)) (last + 1)
+              (λ k c. ap (λ (x : ℕ). part (weightAt l n k) x) (values-same k s h));
           before = λ k h. refl;
-          after = λ k h. refl;
+          after = λ k h c. refl;
         }
 
 pub ruleset high-laws = (may-look, may-read, is-high)

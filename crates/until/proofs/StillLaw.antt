@@ -3,11 +3,11 @@ use mathlib.Core.Path.{_≡_, refl}
 use mathlib.Core.List.{List}
 use Prim.Native.Nat.{ℕ}
 use Rattle.csl.specs.Report.{lowerOf, upperOf}
-use Rattle.values.specs.Paper.{verdictOf, interval}
-use Rattle.values.specs.Byte.{verdictAt}
-use Rattle.values.specs.declared.verdict.Verdict.{Verdict}
-use Rattle.values.specs.declared.interval.Interval.{Interval}
-use Rattle.step.specs.Value.{verdicts}
+use Rattle.verdicts.specs.Paper.{verdictOf, interval}
+use Rattle.verdicts.specs.Byte.{verdictAt}
+use Rattle.verdicts.specs.declared.verdict.Verdict.{Verdict}
+use Rattle.verdicts.specs.declared.interval.Interval.{Interval}
+use Rattle.until.specs.Reading.{verdicts}
 use Rattle.until.proofs.EndsLaw as ends
 
 abbrev pub Inv : (l₀ l second : List ℕ) (n s : ℕ) → Type 0

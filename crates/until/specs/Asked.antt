@@ -2,58 +2,47 @@
 use mathlib.Core.Path.{_≡_}
 use mathlib.Core.Bool.{Bool, true, _&&_}
 use mathlib.Core.List.{List}
-use Prim.Native.Nat.{ℕ, zero, suc, _+_, _*_, _-_, _/_, _^_, _≤_, _<_}
+use Prim.Native.Nat.{ℕ, zero, suc, _+_, _*_, _/_, _^_, _≤_, _<_}
 use lib.ListN.{length}
 use lib.Dec.{leb}
-use Rattle.csl.specs.Limits.{billion, rateHours, spareSteps}
+use Rattle.csl.specs.Limits.{billion, mostStates, mostRate, rateHours}
 use Rattle.csl.specs.Chain.{sumTo}
 use Rattle.csl.specs.Phase.{Phase}
 use Rattle.csl.specs.Report as report
-use Rattle.csl.specs.Fraction.{frac, roundUp}
-use Rattle.bounds.specs.Weight.{peak, low}
+use Rattle.bounds.specs.Weight.{peak}
 use Rattle.bounds.specs.Unit.{one, scale, grain, part}
-use Rattle.bounds.specs.Ends.{total, lowerEnd}
+use Rattle.bounds.specs.Ends.{lowerEnd}
 use Rattle.bounds.specs.Upper.{upperEnd}
-use Rattle.bounds.specs.Values.{pointed, lowerOf, upperOf}
-use Rattle.rows.specs.Words.{at, exitOf, topOf, rowOf, Lines}
-use Rattle.step.specs.Value.{verdicts, readPhase, lowPhase, highPhase, valueOf}
-use Rattle.step.specs.Asked.{Sheet}
-use Rattle.sums.specs.Asked.{sumsAt}
+use Rattle.bounds.specs.StepValues.{pointed, untilLowerOf, untilUpperOf}
+use Rattle.weights.specs.Asked.{mostSteps}
+use Rattle.vectors.specs.Places.{at, valuesFrom, nextFrom, sumsFrom, staysFrom, exitsFrom, weightsFrom, totalAt, numberAt, vectorLength, nextAt, sumAt, stayAt, exitAt, weightAt, totalIn, EndsStored}
+use Rattle.vectors.specs.Prepared.{Rates, Prepared}
+use Rattle.phase.specs.Value.{startOf, heldOf, stayOf, valueOf}
+use Rattle.phase.specs.Load.{loadDepth, Loaded, WeighAsked}
+use Rattle.phase.specs.Ends.{wholeOf, upperFrom}
+use Rattle.until.specs.Reading.{verdicts, readPhase, lowPhase, highPhase}
 
--- "The depth D is 2 × (L rounded up to a whole number) + 40", for a load of a millionths
-abbrev pub depthOf : ℕ → ℕ
-depthOf a = 2 * roundUp (frac a rateHours) + spareSteps
+-- an exit rate and q
+pub record StaysAsked (q exit : ℕ) : Type 0 where
+  pub slow : exit ≤ q
+  pub small : q ≤ mostRate
 
--- a load that the numbers hold: 256 at most
-pub record Loaded (a : ℕ) : Type 0 where
-  pub most : a ≤ 256000000
+-- the start vector of an until and what stays put, to be written
+pub record LayAsked (l first second : List ℕ) (n q : ℕ) : Type 0 where
+  pub states : n ≤ mostStates
+  pub long : vectorLength n ≤ length l
+  pub in-first : n ≤ length first
+  pub in-second : n ≤ length second
+  pub exits : (s : ℕ) → s < n → StaysAsked q (exitAt l n s)
 
--- weights to be worked out
-pub record WeighAsked (l : List ℕ) (n a depth : ℕ) : Type 0 where
-  pub states : n ≤ 512
-  pub some : 0 < a
-  pub load : a ≤ 256000000
-  pub deep : depth ≡ depthOf a
-  pub room : 8 * n + depth < length l
-
--- the weights from word 8 * n on, and their total; only those words are changed
-pub record Weighed (n a depth : ℕ) (l₀ l : List ℕ) (r : ℕ) : Type 0 where
-  pub all : r ≡ total a rateHours (a / rateHours) depth
+-- they stand in their columns, and all other words are as they were
+pub record Laid (first second : List ℕ) (n q : ℕ) (b : Bool) (l₀ l : List ℕ) : Type 0 where
   pub same : length l ≡ length l₀
-  pub weights : (k : ℕ) → k ≤ depth → at l (8 * n + k) ≡ low a rateHours (a / rateHours) k
-  pub before : (k : ℕ) → k < 8 * n → at l k ≡ at l₀ k
-  pub beyond : (k : ℕ) → 8 * n + depth < k → at l k ≡ at l₀ k
-
--- where the weights stand
-abbrev pub weightsAt : List ℕ → ℕ → ℕ → ℕ
-weightsAt l n k = at l (8 * n + k)
-
--- the weights of steps 0 to last are to be looked through
-pub record LightAsked (l : List ℕ) (n last : ℕ) : Type 0 where
-  pub states : n ≤ 512
-  pub limit : last < 1024
-  pub room : 8 * n + last < length l
-  pub weights : (k : ℕ) → k ≤ last → weightsAt l n k ≤ peak
+  pub values : (s : ℕ) → s < n → nextAt l n s ≡ startOf (readPhase b first second) s
+  pub stays : (s : ℕ) → s < n → stayAt l n s ≡ stayOf q (exitAt l₀ n s) (heldOf (readPhase b first second) s)
+  pub before : (k : ℕ) → k < nextFrom n → at l k ≡ at l₀ k
+  pub between : (k : ℕ) → sumsFrom n ≤ k → k < staysFrom n → at l k ≡ at l₀ k
+  pub after : (k : ℕ) → exitsFrom n ≤ k → at l k ≡ at l₀ k
 
 -- two rows of verdict bytes to be looked through
 pub record DecidedAsked (first second : List ℕ) (n : ℕ) : Type 0 where
@@ -67,125 +56,105 @@ bothDecided first second (suc s) = bothDecided first second s && leb (at first s
 
 -- the sum over steps 0 to last of weight times value of a phase; the weights are those of the list
 abbrev pub phaseSum : (mv l : List ℕ) (n q last : ℕ) → Phase → ℕ → ℕ
-phaseSum mv l n q last ph s = sumTo (λ i. part (at l (8 * n + i)) (valueOf mv (length mv) q ph i s)) (last + 1)
+phaseSum mv l n q last ph s = sumTo (λ i. part (weightAt l n i) (valueOf mv (length mv) q ph i s)) (last + 1)
 
 -- such sums are to be worked out, for an until
 pub record ReadAsked (mv l first second : List ℕ) (n q last : ℕ) : Type 0 where
-  pub sheet : Sheet mv l n q
+  pub rates : Rates mv l n q
+  pub some : 0 < q
   pub in-first : n ≤ length first
   pub in-second : n ≤ length second
-  pub room : 8 * n + last < length l
-  pub limit : last < 1024
-  pub weights : (k : ℕ) → k ≤ last → at l (8 * n + k) ≤ peak
+  pub limit : last < mostSteps
+  pub room : weightsFrom n + last < totalAt n
+  pub weights : (k : ℕ) → k ≤ last → weightAt l n k ≤ peak
 
--- only the words 2 * n to 6 * n are changed
+-- they stand in their column; the ends, and all from the exit rates on but the step number, are as they were
 pub record Read (mv first second : List ℕ) (n q last : ℕ) (b : Bool) (l₀ l : List ℕ) : Type 0 where
   pub same : length l ≡ length l₀
-  pub sums : (s : ℕ) → s < n → sumsAt l n s ≡ phaseSum mv l₀ n q last (readPhase b first second) s
-  pub before : (k : ℕ) → k < 2 * n → at l k ≡ at l₀ k
-  pub after : (k : ℕ) → 6 * n ≤ k → at l k ≡ at l₀ k
+  pub sums : (s : ℕ) → s < n → sumAt l n s ≡ phaseSum mv l₀ n q last (readPhase b first second) s
+  pub before : (k : ℕ) → k < valuesFrom n → at l k ≡ at l₀ k
+  pub after : (k : ℕ) → exitsFrom n ≤ k → (k ≡ numberAt n → ⊥) → at l k ≡ at l₀ k
 
 -- those with undecided read as no are there
 pub record HighAsked (mv l first second : List ℕ) (n q last : ℕ) : Type 0 where
   pub asked : ReadAsked mv l first second n q last
-  pub sums : (s : ℕ) → s < n → sumsAt l n s ≡ phaseSum mv l n q last (lowPhase first second) s
+  pub sums : (s : ℕ) → s < n → sumAt l n s ≡ phaseSum mv l n q last (lowPhase first second) s
 
--- what values of 0 would leave is to be summed, where values lack e units at step 0
-pub record GatherAsked (l : List ℕ) (n last e : ℕ) : Type 0 where
-  pub light : LightAsked l n last
-  pub error : e ≤ one
-
-abbrev pub wholeOf : List ℕ → ℕ → ℕ → ℕ → ℕ
-wholeOf l n last e = sumTo (λ k. part (weightsAt l n k) (one - (e + k))) (last + 1) - (last + 1)
-
--- sums to be put over the total
-pub record LowerAsked (l : List ℕ) (n total : ℕ) : Type 0 where
-  pub states : n ≤ 512
-  pub room : 5 * n ≤ length l
-  pub some : 0 < total
-  pub divisor : total < 2 ^ 52
-  pub sums : (s : ℕ) → s < n → sumsAt l n s * grain ≤ total * one
-
--- the end that each sum gives
-abbrev pub lowerAt : List ℕ → (n total : ℕ) → ℕ → ℕ
-lowerAt l n total s = sumsAt l n s * scale / total
-
--- what a sum leaves of the whole is to be put over the total
-pub record UpperAsked (total whole : ℕ) : Type 0 where
-  pub some : 0 < total
-  pub divisor : total < 2 ^ 52
-  pub most : whole * grain ≤ total * one
-
--- the end that it gives
-abbrev pub upperFrom : (sum total whole : ℕ) → ℕ
-upperFrom sum total whole = billion - (whole - sum) * scale / total
-
--- intervals are to be made, with lower ends in the first n words
-pub record IntervalsAsked (l first second : List ℕ) (n total whole : ℕ) : Type 0 where
-  pub states : n ≤ 512
-  pub room : 5 * n ≤ length l
+-- intervals are to be made of two ends
+pub record PointAsked (l first second : List ℕ) (n : ℕ) : Type 0 where
+  pub states : n ≤ mostStates
+  pub room : valuesFrom n ≤ length l
   pub in-first : n ≤ length first
   pub in-second : n ≤ length second
   pub lowers : (s : ℕ) → s < n → at l s ≤ billion
-  pub upper : UpperAsked total whole
+  pub uppers : (s : ℕ) → s < n → at l (n + s) ≤ billion
 
--- the ends of each state, the lower ones in the first n words and the upper ones in the next n; only these are changed
-pub record EndsStored (lower upper : ℕ → ℕ) (n : ℕ) (l₀ l : List ℕ) : Type 0 where
-  pub same : length l ≡ length l₀
-  pub lowers : (s : ℕ) → s < n → at l s ≡ lower s
-  pub uppers : (s : ℕ) → s < n → at l (n + s) ≡ upper s
-  pub after : (k : ℕ) → 2 * n ≤ k → at l k ≡ at l₀ k
-
--- those of the intervals that the two operands' verdicts leave
-abbrev pub Intervals : (first second : List ℕ) (n total whole : ℕ) → List ℕ → List ℕ → Type 0
-Intervals first second n total whole l₀ l =
-    EndsStored (λ s. pointed (verdicts first s) (verdicts second s) (at l₀ s))
-    (λ s. pointed (verdicts first s) (verdicts second s) (upperFrom (sumsAt l₀ n s) total whole)) n l₀ l
+-- those that the two operands' verdicts leave
+abbrev pub Pointed : (first second : List ℕ) (n : ℕ) → (old new : List ℕ) → Type 0
+Pointed first second n old new =
+    EndsStored (λ s. pointed (verdicts first s) (verdicts second s) (at old s)) (λ s. pointed (verdicts first s) (verdicts second s) (at old (n + s))) n
+    old new
 
 pub record StillAsked (l second : List ℕ) (n : ℕ) : Type 0 where
-  pub states : n ≤ 512
-  pub room : 2 * n ≤ length l
+  pub states : n ≤ mostStates
+  pub room : valuesFrom n ≤ length l
   pub in-second : n ≤ length second
 
--- those that the second operand's verdicts stand for
-abbrev pub Still : (second : List ℕ) (n : ℕ) → List ℕ → List ℕ → Type 0
-Still second n l₀ l = EndsStored (λ s. report.lowerOf (verdicts second s)) (λ s. report.upperOf (verdicts second s)) n l₀ l
+-- those that the verdicts of a row stand for
+abbrev pub Still : (second : List ℕ) (n : ℕ) → (old new : List ℕ) → Type 0
+Still second n old new = EndsStored (λ s. report.lowerOf (verdicts second s)) (λ s. report.upperOf (verdicts second s)) n old new
+
+-- Both ends are to be made from weights that stand in the words, with their total: values of at most 1 sum up to no more than that.
+pub record BothAsked (mv l first second : List ℕ) (n q last : ℕ) : Type 0 where
+  pub read : ReadAsked mv l first second n q last
+  pub some : 0 < totalIn l n
+  pub divisor : totalIn l n < 2 ^ 52
+  pub most : (v : ℕ → ℕ) → ((k : ℕ) → v k ≤ one) → sumTo (λ k. part (weightAt l n k) (v k)) (last + 1) * grain ≤ totalIn l n * one
+
+-- the intervals' ends stand in their places; all from the exit rates on but the step number is as it was
+pub record Both (mv first second : List ℕ) (n q last : ℕ) (old new : List ℕ) : Type 0 where
+  pub same : length new ≡ length old
+  pub lowers : (s : ℕ) → s < n → at new s ≡ pointed (verdicts first s) (verdicts second s)
+      (phaseSum mv old n q last (lowPhase first second) s * scale / totalIn old n)
+  pub uppers : (s : ℕ) → s < n → at new (n + s) ≡ pointed (verdicts first s) (verdicts second s)
+      (upperFrom (phaseSum mv old n q last (highPhase first second) s) (totalIn old n) (wholeOf old n last 0))
+  pub after : (k : ℕ) → exitsFrom n ≤ k → (k ≡ numberAt n → ⊥) → at new k ≡ at old k
 
 -- a load above 0, of a millionths, is to be summed over
 pub record SummedAsked (mv l first second : List ℕ) (n q a depth : ℕ) : Type 0 where
-  pub sheet : Sheet mv l n q
+  pub prepared : Prepared mv l n q
+  pub some : 0 < q
   pub weigh : WeighAsked l n a depth
   pub in-first : n ≤ length first
   pub in-second : n ≤ length second
 
--- the two ends of each state; the exit rates and row ends stay, and so does all that lies beyond the weights
-pub record Summed (mv first second : List ℕ) (n q a depth : ℕ) (l₀ l : List ℕ) : Type 0 where
-  pub same : length l ≡ length l₀
-  pub lower : (s : ℕ) → s < n → at l s ≡ pointed (verdicts first s) (verdicts second s)
-      (lowerEnd a rateHours (a / rateHours) depth (λ k. valueOf mv (length mv) q (lowPhase first second) k s))
-  pub upper : (s : ℕ) → s < n → at l (n + s) ≡ pointed (verdicts first s) (verdicts second s)
-      (upperEnd a rateHours (a / rateHours) depth 0 (λ k. valueOf mv (length mv) q (highPhase first second) k s))
-  pub rows : (k : ℕ) → 6 * n ≤ k → k < 8 * n → at l k ≡ at l₀ k
-  pub beyond : (k : ℕ) → 8 * n + depth < k → at l k ≡ at l₀ k
+-- the two ends of each state, and no other word changed
+abbrev pub Summed : (mv first second : List ℕ) (n q a depth : ℕ) → (old new : List ℕ) → Type 0
+Summed mv first second n q a depth old new =
+    EndsStored
+    (λ s. pointed (verdicts first s) (verdicts second s)
+    (lowerEnd a rateHours (a / rateHours) depth (λ k. valueOf mv (length mv) q (lowPhase first second) k s)))
+    (λ s. pointed (verdicts first s) (verdicts second s)
+    (upperEnd a rateHours (a / rateHours) depth 0 (λ k. valueOf mv (length mv) q (highPhase first second) k s)))
+    n old new
 
--- an until over t hours is to be worked out: the exit rates from 6 * n on, the row ends from 7 * n on, and q are those of the move words
+-- an until over t hours is to be worked out in prepared words, from two rows of verdict bytes
 pub record UntilAsked (mv l first second : List ℕ) (n q t : ℕ) : Type 0 where
-  pub lines : Lines mv (length mv) n
-  pub exits : (s : ℕ) → s < n → at l (6 * n + s) ≡ exitOf mv (length mv) s
-  pub ends : (s : ℕ) → s < n → at l (7 * n + s) ≡ rowOf mv (length mv) (suc s)
-  pub top : q ≡ topOf mv (length mv) n
-  pub load : q * t ≤ 256000000
-  pub room : 8 * n + depthOf (q * t) < length l
+  pub prepared : Prepared mv l n q
+  pub load : Loaded n (q * t)
   pub in-first : n ≤ length first
   pub in-second : n ≤ length second
 
--- the two ends of each state; the exit rates and row ends stay, and so does all that lies beyond the weights
-pub record Until (mv first second : List ℕ) (n q t : ℕ) (l₀ l : List ℕ) (depth : ℕ) : Type 0 where
-  pub deep : depth ≡ depthOf (q * t)
-  pub same : length l ≡ length l₀
-  pub lower : (s : ℕ) → s < n → at l s ≡ lowerOf (q * t) rateHours depth (verdicts first s) (verdicts second s)
-      (λ k. valueOf mv (length mv) q (lowPhase first second) k s)
-  pub upper : (s : ℕ) → s < n → at l (n + s) ≡ upperOf (q * t) rateHours depth (verdicts first s) (verdicts second s)
-      (λ k. valueOf mv (length mv) q (highPhase first second) k s)
-  pub rows : (k : ℕ) → 6 * n ≤ k → k < 8 * n → at l k ≡ at l₀ k
-  pub beyond : (k : ℕ) → 8 * n + depth < k → at l k ≡ at l₀ k
+-- the two ends at a state
+abbrev pub lowerUntil : (mv first second : List ℕ) (q t : ℕ) → ℕ → ℕ
+lowerUntil mv first second q t s =
+    untilLowerOf (q * t) rateHours (loadDepth (q * t)) (verdicts first s) (verdicts second s) (λ k. valueOf mv (length mv) q (lowPhase first second) k s)
+
+abbrev pub upperUntil : (mv first second : List ℕ) (q t : ℕ) → ℕ → ℕ
+upperUntil mv first second q t s =
+    untilUpperOf (q * t) rateHours (loadDepth (q * t)) (verdicts first s) (verdicts second s) (λ k. valueOf mv (length mv) q (highPhase first second) k s)
+
+-- they stand in their places, and no other word is changed
+pub record Until (mv first second : List ℕ) (n q t : ℕ) (old new : List ℕ) (depth : ℕ) : Type 0 where
+  pub deep : depth ≡ loadDepth (q * t)
+  pub ends : EndsStored (lowerUntil mv first second q t) (upperUntil mv first second q t) n old new

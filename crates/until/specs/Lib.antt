@@ -1,5 +1,5 @@
--- What the functions of until ask and promise, and what the promise says of a chain.
-pub mod Asked
-pub mod Sums
+-- Readings of verdict bytes, runs over a phase, and what the functions of until ask and promise.
+pub mod Reading
 pub mod Run
+pub mod Asked
 pub mod Shown

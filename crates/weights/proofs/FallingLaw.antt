@@ -5,11 +5,11 @@ use mathlib.Core.Logic.{⊎-elim}
 use Prim.Native.Nat.{ℕ, suc, _+_, _*_, _-_, _/_, _≤_, _<_}
 use native.Mathlib.Omega.{arith}
 use native.Mathlib.Nat.{eq-or-lt-of-le, sub-self}
-use lib.ListN.{length, getD, set, length-set}
+use lib.ListN.{length, set, length-set}
 use lib.Seq.{getD-set-same, getD-set-other}
 use borrow.Author.Tests.{lt-ltb, le-ltb}
 use Rattle.numbers.specs.Hint.{le-times}
-use Rattle.numbers.specs.Table.{Table}
+use Rattle.numbers.specs.Filled.{at, Filled}
 use Rattle.bounds.specs.Ladder.{ladder}
 use Rattle.bounds.specs.Weight.{peak, down, low, low-most}
 use Rattle.bounds.specs.Ends.{low-peak}
@@ -33,40 +33,40 @@ low-before a b m i h =
     let f : m - (m - suc i) ≡ suc i = omega arith in
     rw (low-down a b m i (omega arith), low-down a b m (suc i) h, e, f) refl
 
-pub record Inv (w₀ w : List ℕ) (m a b k : ℕ) : Type 0 where
-  pub asked : Half w₀ m a b
+pub record Inv (l₀ l : List ℕ) (p m a b k : ℕ) : Type 0 where
+  pub asked : Half l₀ p m a b
   pub within : k ≤ m
-  pub span : Span (low a b m) w₀ w k (m + 1)
+  pub span : Span (low a b m) p l₀ l k (m + 1)
 
-pub start : {w : List ℕ} {m a b : ℕ} → Half w m a b → Inv (set w m peak) (set w m peak) m a b m
-start {w} {m} {a} {b} p =
+pub start : {l : List ℕ} {p m a b : ℕ} → Half l p m a b → Inv (set l (p + m) peak) (set l (p + m) peak) p m a b m
+start {l} {p} {m} {a} {b} h =
     record {
-      asked = record { middle = p .middle; room = simp length-set (p .room); steps = p .steps; load = p .load; small = p .small };
+      asked = record { middle = h .middle; room = simp length-set (h .room); steps = h .steps; load = h .load; small = h .small };
       within = omega arith;
       span = record {
         same = refl;
-        filled = λ k i l. let e : k ≡ m = omega arith in rw e (getD-set-same w m peak 0 (p .room) ∙ sym (low-peak a b m));
-        before = λ k h. refl;
-        after = λ k h. refl;
+        filled = λ k i u. let e : k ≡ m = omega arith in rw e (getD-set-same l (p + m) peak 0 (h .room) ∙ sym (low-peak a b m));
+        before = λ k u. refl;
+        after = λ k u. refl;
       };
     }
 
-module _ {w₀ w : List ℕ} {m a b k : ℕ} (v : Inv w₀ w m a b k) (h : 0 < k) where
+module _ {l₀ l : List ℕ} {p m a b k : ℕ} (v : Inv l₀ l p m a b k) (h : 0 < k) where
   factor : k * b ≤ a
   factor = omega (arith, le-times b (v .within), v .asked .middle .reached)
 
-  pub in-range : k < length w
+  pub in-range : p + k < length l
   in-range = omega (arith, v .span .same, v .asked .room, v .within)
 
-  pub in-range-before : k - 1 < length w
+  pub in-range-before : p + (k - 1) < length l
   in-range-before = omega (arith, in-range)
 
-  pub may-call : Fall (getD w k 0) k a b
+  pub may-call : Fall (at l (p + k)) k a b
   may-call =
       rw (v .span .filled k (omega arith) (omega (arith, v .within)))
       (record { weight = low-most (v .asked .middle) k; some = v .asked .middle .some; load = v .asked .load; falls = factor })
 
-  pub turn : (r : ℕ) → r ≡ getD w k 0 * (k * b) / a → Inv w₀ (set w (k - 1) r) m a b (k - 1)
+  pub turn : (r : ℕ) → r ≡ at l (p + k) * (k * b) / a → Inv l₀ (set l (p + (k - 1)) r) p m a b (k - 1)
   turn r e =
       let s : suc (k - 1) ≡ k = omega arith in
       record {
@@ -76,15 +76,16 @@ module _ {w₀ w : List ℕ} {m a b k : ℕ} (v : Inv w₀ w m a b k) (h : 0 < k
             (e ∙ rw (v .span .filled k (omega arith) (omega (arith, v .within)), low-before a b m (k - 1) (omega (arith, v .within)), s) refl);
       }
 
-pub finish : (e : List ℕ) (x : ℕ) {w : List ℕ} {m a b k : ℕ} → Inv (set e m x) w m a b k → k ≤ 0 → Table (low a b m) e w (m + 1)
-finish e x {w} {m} v h =
+pub finish : (e : List ℕ) (x : ℕ) {l : List ℕ} {p m a b k : ℕ} → Inv (set e (p + m) x) l p m a b k → k ≤ 0 → Filled (low a b m) p (m + 1) e l
+finish e x {p = p} {m = m} v h =
     record {
-      same = v .span .same ∙ length-set e m x;
-      filled = λ k l. v .span .filled k (omega arith) l;
-      rest = λ k l. v .span .after k l ∙ getD-set-other e m k x 0 (omega arith);
+      same = v .span .same ∙ length-set e (p + m) x;
+      filled = λ k b. v .span .filled k (omega arith) b;
+      before = λ k b. v .span .before k (omega arith) ∙ getD-set-other e (p + m) k x 0 (omega arith);
+      after = λ k b. v .span .after k b ∙ getD-set-other e (p + m) k x 0 (omega arith);
     }
 
-pub finish-length : (e : List ℕ) (x : ℕ) {w : List ℕ} {m a b k : ℕ} → Inv (set e m x) w m a b k → k ≤ 0 → length w ≡ length e
+pub finish-length : (e : List ℕ) (x : ℕ) {l : List ℕ} {p m a b k : ℕ} → Inv (set e (p + m) x) l p m a b k → k ≤ 0 → length l ≡ length e
 finish-length e x v h = finish e x v h .same
 
 pub ruleset falling-laws = (start, in-range, in-range-before, may-call, turn, finish, finish-length)

@@ -6,13 +6,13 @@ use native.Mathlib.Omega.{arith}
 use native.Mathlib.Numerals.{add-one}
 use Rattle.csl.specs.Chain.{sumTo}
 use Rattle.numbers.specs.Sum.{sum-cong}
-use Rattle.numbers.specs.Table.{Table}
+use Rattle.numbers.specs.Filled.{Filled}
 use Rattle.bounds.specs.Weight.{low, apart, low-most}
 use Rattle.bounds.specs.Ends.{total}
 use Rattle.weights.specs.Asked.{Rest, weighed, Total, Weigh}
 
-module _ {e w : List ℕ} {m d a b : ℕ} (p : Weigh e m d a b) (t : Table (low a b m) e w (m + 1)) where
-  pub may-rise : Rest w m d a b
+module _ {e w : List ℕ} {from m d a b : ℕ} (p : Weigh e from m d a b) (t : Filled (low a b m) from (m + 1) e w) where
+  pub may-rise : Rest w from m d a b
   may-rise =
       record {
         half = record {
@@ -28,8 +28,9 @@ module _ {e w : List ℕ} {m d a b : ℕ} (p : Weigh e m d a b) (t : Table (low 
         stand = t .filled;
       }
 
-module _ {e w x : List ℕ} {m d a b : ℕ} (p : Weigh e m d a b) (t : Table (low a b m) e w (m + 1)) (u : Table (low a b m) w x (d + 1)) where
-  pub may-total : Total x m d
+module _ {e w x : List ℕ} {from m d a b : ℕ} (p : Weigh e from m d a b) (t : Filled (low a b m) from (m + 1) e w)
+    (u : Filled (low a b m) from (d + 1) w x) where
+  pub may-total : Total x from m d
   may-total =
       record {
         deep = p .deep;
@@ -38,18 +39,19 @@ module _ {e w x : List ℕ} {m d a b : ℕ} (p : Weigh e m d a b) (t : Table (lo
         light = λ k h. rw (u .filled k h) (low-most (p .half .middle) k);
       }
 
-  pub is-table : Table (low a b m) e x (d + 1)
+  pub is-table : Filled (low a b m) from (d + 1) e x
   is-table =
       record {
         same = u .same ∙ t .same;
         filled = u .filled;
-        rest = λ k h. u .rest k h ∙ t .rest k (omega (arith, p .deep));
+        before = λ k h. u .before k h ∙ t .before k h;
+        after = λ k h. u .after k h ∙ t .after k (omega (arith, p .deep));
       }
 
-  pub is-total : (r : ℕ) → r ≡ sumTo (weighed x m) (d + 1) + weighed x m d → r ≡ total a b m d
+  pub is-total : (r : ℕ) → r ≡ sumTo (weighed x from m) (d + 1) + weighed x from m d → r ≡ total a b m d
   unfolding total
   is-total r q =
       q ∙
-      rw (sum-cong (weighed x m) (λ k. low a b m k + apart m k) (d + 1) (λ k h. rw (u .filled k h) refl), u .filled d (omega arith), add-one) refl
+      rw (sum-cong (weighed x from m) (λ k. low a b m k + apart m k) (d + 1) (λ k h. rw (u .filled k h) refl), u .filled d (omega arith), add-one) refl
 
 pub ruleset weigh-laws = (may-rise, may-total, is-table, is-total)

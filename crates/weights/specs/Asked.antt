@@ -2,9 +2,14 @@
 use mathlib.Core.Path.{_≡_}
 use mathlib.Core.List.{List}
 use Prim.Native.Nat.{ℕ, _+_, _*_, _^_, _≤_, _<_}
-use lib.ListN.{length, getD}
+use lib.ListN.{length}
+use Rattle.numbers.specs.Filled.{at}
 use Rattle.bounds.specs.Weight.{peak, Middle, low, apart}
 use Rattle.bounds.specs.Unit.{one, scale, part}
+
+-- the numbers hold fewer steps than this
+abbrev pub mostSteps : ℕ
+mostSteps = 1024
 
 -- a weight at or before the largest one: k * b is at most a
 pub record Fall (w k a b : ℕ) : Type 0 where
@@ -21,6 +26,12 @@ pub record Rise (w k a b : ℕ) : Type 0 where
   pub divisor : k * b < 2 ^ 37
   pub falls : a ≤ k * b
 
+-- the weight of step k, to be made as much greater as it can be too low
+pub record Slack (w m k : ℕ) : Type 0 where
+  pub weight : w ≤ peak
+  pub middle : m < mostSteps
+  pub step : k < mostSteps
+
 -- a weight times a value, to be added to a sum
 pub record Adds (sum w v : ℕ) : Type 0 where
   pub weight : w ≤ peak
@@ -33,35 +44,35 @@ pub record Over (g t : ℕ) : Type 0 where
   pub divisor : t < 2 ^ 52
   pub fits : g * scale < 2 ^ 64 * t
 
--- the weights below the middle
-pub record Half (w : List ℕ) (m a b : ℕ) : Type 0 where
+-- the weights below the middle, from place p on
+pub record Half (l : List ℕ) (p m a b : ℕ) : Type 0 where
   pub middle : Middle a b m
-  pub room : m < length w
-  pub steps : m < 1024
+  pub room : p + m < length l
+  pub steps : m < mostSteps
   pub load : a < 2 ^ 36
   pub small : b < 2 ^ 27
 
 -- the weights above it, once those through it stand
-pub record Rest (w : List ℕ) (m d a b : ℕ) : Type 0 where
-  pub half : Half w m a b
+pub record Rest (l : List ℕ) (p m d a b : ℕ) : Type 0 where
+  pub half : Half l p m a b
   pub deep : m ≤ d
-  pub long : d < length w
-  pub limit : d < 1024
-  pub stand : (k : ℕ) → k < m + 1 → getD w k 0 ≡ low a b m k
+  pub long : p + d < length l
+  pub limit : d < mostSteps
+  pub stand : (k : ℕ) → k < m + 1 → at l (p + k) ≡ low a b m k
 
--- weight k of a list, and how much too low it can be
-abbrev pub weighed : List ℕ → ℕ → ℕ → ℕ
-weighed w m k = getD w k 0 + apart m k
+-- weight k of those from place p on, and how much too low it can be
+abbrev pub weighed : List ℕ → (p m : ℕ) → ℕ → ℕ
+weighed l p m k = at l (p + k) + apart m k
 
-pub record Total (w : List ℕ) (m d : ℕ) : Type 0 where
+pub record Total (l : List ℕ) (p m d : ℕ) : Type 0 where
   pub deep : m ≤ d
-  pub long : d < length w
-  pub limit : d < 1024
-  pub light : (k : ℕ) → k < d + 1 → getD w k 0 ≤ peak
+  pub long : p + d < length l
+  pub limit : d < mostSteps
+  pub light : (k : ℕ) → k < d + 1 → at l (p + k) ≤ peak
 
 -- the whole table of weights and its total
-pub record Weigh (w : List ℕ) (m d a b : ℕ) : Type 0 where
-  pub half : Half w m a b
+pub record Weigh (l : List ℕ) (p m d a b : ℕ) : Type 0 where
+  pub half : Half l p m a b
   pub deep : m ≤ d
-  pub long : d < length w
-  pub limit : d < 1024
+  pub long : p + d < length l
+  pub limit : d < mostSteps

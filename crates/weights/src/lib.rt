@@ -2,14 +2,14 @@
 ghost use mathlib.Core.Path.{_≡_};
 ghost use Prim.Native.Nat.{_+_, _*_, _-_, _/_};
 ghost use Rattle.csl.specs.Chain.{sumTo};
-ghost use Rattle.numbers.specs.Table.{Table};
+ghost use Rattle.numbers.specs.Filled.{Filled};
 ghost use Rattle.bounds.specs.Weight.{low};
 ghost use Rattle.bounds.specs.Unit.{scale, part};
 ghost use Rattle.bounds.specs.Ends as ends;
-ghost use Rattle.weights.specs.Asked.{Fall, Rise, Adds, Over, Half, Rest, weighed, Total, Weigh};
+ghost use Rattle.weights.specs.Asked.{Fall, Rise, Slack, Adds, Over, Half, Rest, weighed, Total, Weigh};
 
 // The weight of step k - 1, from the weight w of step k.
-pub fn before(w: u64, k: u64, a: u64, b: u64) -> u64
+fn before(w: u64, k: u64, a: u64, b: u64) -> u64
     requires { ⌜ Fall w k a b ⌝ }
     ensures { λ r. ⌜ r ≡ w * (k * b) / a ⌝ }
 {
@@ -17,7 +17,7 @@ pub fn before(w: u64, k: u64, a: u64, b: u64) -> u64
 }
 
 // The weight of step k, from the weight w of step k - 1.
-pub fn after(w: u64, k: u64, a: u64, b: u64) -> u64
+fn after(w: u64, k: u64, a: u64, b: u64) -> u64
     requires { ⌜ Rise w k a b ⌝ }
     ensures { λ r. ⌜ r ≡ w * a / (k * b) ⌝ }
 {
@@ -46,58 +46,67 @@ pub fn over(g: u64, t: u64) -> u64
 }
 
 // How many steps lie between m and k.
-pub fn apart(m: usize, k: usize) -> usize
+fn apart(m: usize, k: usize) -> usize
     ensures { λ r. ⌜ r ≡ m - k + (k - m) ⌝ }
 {
     if k < m { m - k } else { k - m }
 }
 
-// The weights of steps m down to 0.
-pub fn falling(w: &mut [u64], m: usize, a: u64, b: u64)
-    requires { ⌜ Half (now w) m a b ⌝ }
-    ensures { λ _. ⌜ Table (low a b m) (now (w .entry)) (now (w .exit)) (m + 1) ⌝ }
+// The weight w of step k, as much greater as it can be too low, with the largest weight at m.
+fn at_most(w: u64, m: usize, k: usize) -> u64
+    requires { ⌜ Slack w m k ⌝ }
+    ensures { λ r. ⌜ r ≡ w + (m - k + (k - m)) ⌝ }
 {
-    w[m] = bounds::PEAK;
+    w + (apart(m, k) as u64)
+}
+
+// The weights of steps m down to 0, from a place of the words on.
+fn falling(words: &mut [u64], from: usize, m: usize, a: u64, b: u64)
+    requires { ⌜ Half (now words) from m a b ⌝ }
+    ensures { λ _. ⌜ Filled (low a b m) from (m + 1) (now (words .entry)) (now (words .exit)) ⌝ }
+{
+    words[from + m] = bounds::PEAK;
     let mut k = m;
     while 0 < k {
-        w[k - 1] = before(w[k], k as u64, a, b);
-        k -= 1;
+        let n = k - 1;
+        words[from + n] = before(words[from + k], k as u64, a, b);
+        k = n;
     }
 }
 
 // The weights of the steps after m, through d.
-pub fn rising(w: &mut [u64], m: usize, d: usize, a: u64, b: u64)
-    requires { ⌜ Rest (now w) m d a b ⌝ }
-    ensures { λ _. ⌜ Table (low a b m) (now (w .entry)) (now (w .exit)) (d + 1) ⌝ }
+fn rising(words: &mut [u64], from: usize, m: usize, d: usize, a: u64, b: u64)
+    requires { ⌜ Rest (now words) from m d a b ⌝ }
+    ensures { λ _. ⌜ Filled (low a b m) from (d + 1) (now (words .entry)) (now (words .exit)) ⌝ }
 {
     let mut k = m;
     while k < d {
         let n = k + 1;
-        w[n] = after(w[k], n as u64, a, b);
+        words[from + n] = after(words[from + k], n as u64, a, b);
         k = n;
     }
 }
 
 // All weights together, each taken at most as much too low as it can be, and the last once more for the steps after d.
-pub fn total(w: &[u64], m: usize, d: usize) -> u64
-    requires { ⌜ Total (now w) m d ⌝ }
-    ensures { λ r. ⌜ r ≡ sumTo (weighed (now (w .entry)) m) (d + 1) + weighed (now (w .entry)) m d ⌝ }
+fn total(words: &[u64], from: usize, m: usize, d: usize) -> u64
+    requires { ⌜ Total (now words) from m d ⌝ }
+    ensures { λ r. ⌜ r ≡ sumTo (weighed (now (words .entry)) from m) (d + 1) + weighed (now (words .entry)) from m d ⌝ }
 {
-    let mut t = w[d] + (apart(m, d) as u64);
+    let mut t = at_most(words[from + d], m, d);
     let mut k: usize = 0;
     while k <= d {
-        t += w[k] + (apart(m, k) as u64);
+        t += at_most(words[from + k], m, k);
         k += 1;
     }
     t
 }
 
-// The weights of steps 0 to d, from the largest one, at m; and their total.
-pub fn weigh(w: &mut [u64], m: usize, d: usize, a: u64, b: u64) -> u64
-    requires { ⌜ Weigh (now w) m d a b ⌝ }
-    ensures { λ r. ⌜ (r ≡ ends.total a b m d) × Table (low a b m) (now (w .entry)) (now (w .exit)) (d + 1) ⌝ }
+// The weights of steps 0 to d, from the largest one, at m, into the words from a place on; and their total.
+pub fn weigh(words: &mut [u64], from: usize, m: usize, d: usize, a: u64, b: u64) -> u64
+    requires { ⌜ Weigh (now words) from m d a b ⌝ }
+    ensures { λ r. ⌜ (r ≡ ends.total a b m d) × Filled (low a b m) from (d + 1) (now (words .entry)) (now (words .exit)) ⌝ }
 {
-    falling(w, m, a, b);
-    rising(w, m, d, a, b);
-    total(w, m, d)
+    falling(words, from, m, a, b);
+    rising(words, from, m, d, a, b);
+    total(words, from, m, d)
 }

@@ -4,18 +4,21 @@ use mathlib.Core.Bool.{Bool, true, false, cond}
 use Prim.Native.Nat.{ℕ, _*_, _<_}
 use mathlib.Core.List.{_++_}
 use native.Mathlib.Omega.{arith}
-use lib.Dec.{leb·zero}
 use Rattle.csl.specs.Text.{Text, bytes}
 use Rattle.csl.specs.Limits.{billion}
-use Rattle.csl.specs.Formula.{always, label, negated, both, until, Comparison, AtLeast}
+use Rattle.csl.specs.Formula.{always, label, negated, both, chance, Path, until, Comparison, AtLeast}
 use Rattle.csl.specs.Chain.{Chain, topRate}
-use Rattle.csl.specs.Verdicts.{Verdict, No, Yes, marked, negation, conjunction, judged, asNo, asYes}
-use Rattle.csl.specs.Backing.{Backed}
+use Rattle.csl.specs.Verdicts.{Verdict, No, Yes, marked, negation, conjunction, judged, asNo, asYes, Sides}
+use Rattle.csl.specs.Backing.{AtEach, ChanceKeeps, operandsOf}
 use Rattle.csl.specs.Report.{Reported, lowerOf, upperOf, rowText, rowsText, reportText}
 use Rattle.csl.specs.Refusal.{jobChain}
-use Rattle.csl.specs.Bench.{small, still, up, dead, negatedTimes, Prints, BenchValues}
+use Rattle.csl.specs.Bench.{small, still, up, negatedTimes, Prints, BenchValues}
 use Rattle.csl.specs.Laws.Computing.{computing}
 use Rattle.csl.specs.Laws.PointEnds.{still-lower, still-upper}
+use Rattle.csl.specs.Laws.Enclosure.{ordered-ends}
+use Rattle.csl.specs.Laws.Sides.{one-verdict}
+use Rattle.csl.specs.Laws.Backing.{kept-operands}
+use Rattle.csl.specs.Laws.Throughout.{sides}
 
 -- a row of a report
 pub record Row (lower upper : ℕ → ℕ) (v : ℕ → Verdict) (s a b : ℕ) (x : Verdict) : Type 0 where
@@ -37,19 +40,17 @@ as-yes-end false = refl
 
 -- with load 0 the ends of an until over labels are 0 or 1, as the second is marked
 still-row : (c : Chain) (r : Comparison) (p t : ℕ) (x y : Text) (lower upper : ℕ → ℕ) (v : ℕ → Verdict) → topRate c * t ≡ 0
-    → Reported c (until r p t (label x) (label y)) lower upper v → (s : ℕ) → s < c .states
+    → Reported c (chance r p (until t (label x) (label y))) lower upper v → (s : ℕ) → s < c .states
     → (b : Bool) → c .mark y s ≡ b → Row lower upper v s (endOf b) (endOf b) (judged r p (endOf b) (endOf b))
-unfolding Backed
 still-row c r p t x y lower upper v z k s l b e =
     let d : k .second s ≡ marked b = k .second-backed s l ∙ ap marked e in
-    let low : lower s ≡ endOf b = still-lower c t _ _ s l _ _ z (k .ends s l) ∙ rw d (as-no-end b) in
-    let high : upper s ≡ endOf b = still-upper c t _ _ s l _ _ z (k .ends s l) ∙ rw d (as-yes-end b) in
-    record { lower-is = low; upper-is = high; verdict-is = k .verdict s l ∙ rw (low, high) }
+    let low : lower s ≡ endOf b = still-lower c t _ _ s l _ _ z (k .keeps .ends s l) ∙ rw d (as-no-end b) in
+    let high : upper s ≡ endOf b = still-upper c t _ _ s l _ _ z (k .keeps .ends s l) ∙ rw d (as-yes-end b) in
+    record { lower-is = low; upper-is = high; verdict-is = k .keeps .verdict s l ∙ rw (low, high) }
 
 -- `tt`, and `&` of a label and `!` of another
 always-row : (c : Chain) (lower upper : ℕ → ℕ) (v : ℕ → Verdict) → Reported c always lower upper v → (s : ℕ) → s < c .states
     → Row lower upper v s billion billion Yes
-unfolding Backed
 always-row c lower upper v k s l =
     let e : v s ≡ Yes = k .backed s l in
     record { lower-is = k .lowers s l ∙ rw e; upper-is = k .uppers s l ∙ rw e; verdict-is = e }
@@ -58,7 +59,6 @@ and-not-row : (c : Chain) (x y : Text) (lower upper : ℕ → ℕ) (v : ℕ → 
     → Reported c (both (label x) (negated (label y))) lower upper v → (s : ℕ) → s < c .states
     → (a b : Bool) → c .mark x s ≡ a → c .mark y s ≡ b → (w : Verdict) → conjunction (marked a) (negation (marked b)) ≡ w
     → Row lower upper v s (lowerOf w) (upperOf w) w
-unfolding Backed
 and-not-row c x y lower upper v k s l a b h j w i =
     let e : v s ≡ w
     = k .backed .verdict s l
@@ -102,6 +102,16 @@ both-prints lower upper v k =
     two-rows lower upper v 0 billion billion Yes 0 0 No (row 0 (omega arith) true false refl refl Yes refl)
     (row 1 (omega arith) false true refl refl No refl)
 
+-- every interval lies on the true side of "at least 0"
+at-least-zero : (c : Chain) (w : Path) (lower upper : ℕ → ℕ) (v : ℕ → Verdict) → Reported c (chance AtLeast 0 w) lower upper v
+    → AtEach c λ s. v s ≡ Yes
+unfolding Sides
+at-least-zero c w lower upper v k s l =
+    let h : ChanceKeeps c AtLeast 0 lower upper v (operandsOf c w (ChanceKeeps c AtLeast 0 lower upper v) k)
+    = kept-operands c w (ChanceKeeps c AtLeast 0 lower upper v) k in
+    one-verdict 0 (lower s) (upper s) (ordered-ends c _ s (lower s) (upper s) l (h .ends s l)) AtLeast (v s) Yes
+    (sides c AtLeast 0 lower upper v _ h s l) (λ x a b. omega arith)
+
 pub bench-values : BenchValues
 unfolding computing negatedTimes
 bench-values =
@@ -120,5 +130,5 @@ bench-values =
       fifteen = refl;
       sixteen = refl;
       at-least-0-accepted = refl;
-      at-least-0 = λ c t a b lower upper v k s l. k .verdict s l ∙ rw (leb·zero (lower s));
+      at-least-0 = at-least-zero;
     }

@@ -3,17 +3,17 @@ use mathlib.Core.List.{headD}
 use Rattle.csl.specs.Text.{same, among, every, any}
 use Rattle.csl.specs.Number.{zeroLed, isNumber, valueFrom}
 use Rattle.csl.specs.Line.{ahead, parts, endedParts, noRemnant, linesOf, isEnded, firstLine, laterLines, fieldsOf}
-use Rattle.csl.specs.Labels.{isWord, isName, noRepeat, namesOf, labelsHead, isMark, stateLine, labelsLayout, inTurn, statesOf, placeOf, markOf}
+use Rattle.csl.specs.Labels.{isWord, isName, noRepeat, namesOf, labelsHead, isMark, stateLine, labelsLayout, inTurn, statesOf, placeOf, markAt}
 use Rattle.csl.specs.Moves.{movesHead, moveLine, movesLayout, fieldValue, moveOf, movesOf, isRising, rateIn, ratesOut}
-use Rattle.csl.specs.Formula.{nodes, levels, labelsPass, untilsPass}
+use Rattle.csl.specs.Formula.{nodes, levels, labelsPass, pathsPass, nodesIn, levelsIn, labelsPassIn, pathsPassIn}
 use Rattle.csl.specs.Grammar.{tokensOf, andThen, comparisonOf, onComparison, onNumber, onWord, pair, path, headOf, state, readState, whole, readFormula}
 use Rattle.csl.specs.Fraction.{sumUp}
 use Rattle.csl.specs.Chain.{chainOf, sumTo, greatest, away, exitRate, topRate, load, depth}
 use Rattle.csl.specs.Phase.{moved, divisor, stepTop, weight, quotient}
 use Rattle.csl.specs.Report.{depthOf, decimalIn, decimal, rowText, rowsText, reportText, refusalText}
 use Rattle.csl.specs.Lent.{rooms, isShort, column, written, filled}
-use Rattle.csl.specs.Refusal.{formulaFrom, outOfBytes, brokenLayout, wrongFirstLine, wrongStates, manyMoves, strangeState, ownState, notRising, wrongRate, isMissing, brokenGrammar, largeFormula, strangeLabel, wrongBound, highLoad, shortBuffer, textTests, firstOf, textRefusal, refusal, outcomeBy, outcome}
+use Rattle.csl.specs.Refusal.{formulaFrom, brokenLayout, wrongFirstLine, wrongStates, manyMoves, notRising, isMissing, largeFormula, strangeLabel, wrongBound, highLoad, shortBuffer, sheetTests, formulaTests, textTests, firstOf, textRefusal, refusal, outcomeBy, outcome}
 
 unfoldable pub computing : Unit {0}
-unfolding same among every any zeroLed isNumber valueFrom ahead parts endedParts noRemnant linesOf isEnded firstLine laterLines fieldsOf isWord isName noRepeat namesOf labelsHead isMark stateLine labelsLayout inTurn statesOf placeOf markOf movesHead moveLine movesLayout fieldValue moveOf movesOf isRising rateIn ratesOut nodes levels labelsPass untilsPass tokensOf andThen comparisonOf onComparison onNumber onWord pair path headOf state readState whole readFormula sumUp chainOf sumTo greatest away exitRate topRate load depth moved divisor stepTop weight quotient depthOf decimalIn decimal rowText rowsText reportText refusalText rooms isShort column written filled formulaFrom outOfBytes brokenLayout wrongFirstLine wrongStates manyMoves strangeState ownState notRising wrongRate isMissing brokenGrammar largeFormula strangeLabel wrongBound highLoad shortBuffer textTests firstOf textRefusal refusal outcomeBy outcome headD
+unfolding same among every any zeroLed isNumber valueFrom ahead parts endedParts noRemnant linesOf isEnded firstLine laterLines fieldsOf isWord isName noRepeat namesOf labelsHead isMark stateLine labelsLayout inTurn statesOf placeOf markAt movesHead moveLine movesLayout fieldValue moveOf movesOf isRising rateIn ratesOut nodes levels labelsPass pathsPass nodesIn levelsIn labelsPassIn pathsPassIn tokensOf andThen comparisonOf onComparison onNumber onWord pair path headOf state readState whole readFormula sumUp chainOf sumTo greatest away exitRate topRate load depth moved divisor stepTop weight quotient depthOf decimalIn decimal rowText rowsText reportText refusalText rooms isShort column written filled formulaFrom brokenLayout wrongFirstLine wrongStates manyMoves notRising isMissing largeFormula strangeLabel wrongBound highLoad shortBuffer sheetTests formulaTests textTests firstOf textRefusal refusal outcomeBy outcome headD
 computing = tt

@@ -6,13 +6,13 @@ use native.Mathlib.Omega.{arith}
 use native.Mathlib.Nat.{lt-of-mul-lt-mul-right, le-of-lt}
 use lib.Dec.{lit<}
 use Rattle.csl.specs.Text.{bytes}
-use Rattle.csl.specs.Formula.{until, AtMost}
+use Rattle.csl.specs.Formula.{chance, until, untilOf, AtMost}
 use Rattle.csl.specs.Fraction.{Fraction, IsFraction, Below, times, over, plus, sumUp, billionths}
 use Rattle.csl.specs.Chain.{Chain, load, depth}
-use Rattle.csl.specs.Phase.{untilPhase, stepValue, quotient, untilQuotient, weight}
+use Rattle.csl.specs.Phase.{stepValue, quotient, weight}
 use Rattle.csl.specs.Verdicts.{Verdict, Yes, judged, Sides}
+use Rattle.csl.specs.Until.{untilPhase, untilQuotient}
 use Rattle.csl.specs.Ends.{EndsAt}
-use Rattle.csl.specs.Backing.{Backed}
 use Rattle.csl.specs.Report.{Reported}
 use Rattle.csl.specs.Refusal.{jobChain}
 use Rattle.csl.specs.Bench.{small, up, dead, EightHours}
@@ -123,24 +123,22 @@ yes-below : (p lower upper : ℕ) → upper ≤ p → lower ≤ upper → judged
 unfolding Sides
 yes-below p lower upper h k = one-verdict p lower upper k AtMost _ Yes (judged-sides p lower upper k AtMost) (λ x a b. omega arith)
 
-pub eight-hours : (lower upper : ℕ → ℕ) (v : ℕ → Verdict) → Reported sheet (until AtMost 10000000 8 up dead) lower upper v → EightHours lower upper v
-unfolding Backed
+pub eight-hours : (lower upper : ℕ → ℕ) (v : ℕ → Verdict) → Reported sheet (chance AtMost 10000000 (until 8 up dead)) lower upper v
+    → EightHours lower upper v
 eight-hours lower upper v k =
     let here : 0 < sheet .states = omega (arith, two-states) in
-    let e : EndsAt sheet 8 (k .first) (k .second) 0 (lower 0) (upper 0) = k .ends 0 here in
+    let e : EndsAt sheet (untilOf 8 (k .first) (k .second)) 0 (lower 0) (upper 0) = k .keeps .ends 0 here in
+    let same-low = low-marks sheet 8 _ _ isUp isDead (k .first-backed) (k .second-backed) 0 42 here in
+    let same-high = high-marks sheet 8 _ _ isUp isDead (k .first-backed) (k .second-backed) 0 42 here in
     let low : lower 0 < 3992011
-    = end-under atDepth (lower 0) 3992011
-    (rw (low-marks sheet 8 _ _ isUp isDead (k .first-backed) (k .second-backed) 0 42 here .0, low-marks sheet 8 _ _ isUp isDead (k .first-backed) (k .second-backed) 0 42 here .1)
-    at (e .lower-side 42 (omega (arith, depth-is)))) under-end in
+    = end-under atDepth (lower 0) 3992011 (rw (same-low .0, same-low .1) at (e .lower-side 42 (omega (arith, depth-is)))) under-end in
     let high : 3992010 < upper 0
-    = end-over atDepth (upper 0) 3992010
-    (rw (high-marks sheet 8 _ _ isUp isDead (k .first-backed) (k .second-backed) 0 42 here .0, high-marks sheet 8 _ _ isUp isDead (k .first-backed) (k .second-backed) 0 42 here .1)
-    at (e .upper-side 42 (omega (arith, depth-is)))) over-end in
+    = end-over atDepth (upper 0) 3992010 (rw (same-high .0, same-high .1) at (e .upper-side 42 (omega (arith, depth-is)))) over-end in
     let narrow : upper 0 ≤ lower 0 + 168
-    = omega (arith, depth-is, e .width (marks-decided sheet _ isUp (k .first-backed)) (marks-decided sheet _ isDead (k .second-backed))) in
+    = omega (arith, depth-is, e .width (marks-decided sheet _ isUp (k .first-backed), marks-decided sheet _ isDead (k .second-backed))) in
     record {
       low = omega arith;
       high = omega arith;
       narrow = narrow;
-      verdict = k .verdict 0 here ∙ yes-below 10000000 (lower 0) (upper 0) (omega arith) (omega arith);
+      verdict = k .keeps .verdict 0 here ∙ yes-below 10000000 (lower 0) (upper 0) (omega arith) (omega arith);
     }

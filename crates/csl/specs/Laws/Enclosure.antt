@@ -1,22 +1,54 @@
 -- T1: the two ends enclose all quotients from D on, for every reading of the operands. Assumes nothing.
 use mathlib.Core.Bool.{Bool}
 use Prim.Native.Nat.{ℕ, _≤_, _<_}
+use native.Mathlib.Omega.{arith}
+use Rattle.csl.specs.Formula.{PathOf, untilOf, mapped}
 use Rattle.csl.specs.Fraction.{Below, billionths}
 use Rattle.csl.specs.Chain.{Chain, depth}
-use Rattle.csl.specs.Phase.{untilQuotient}
-use Rattle.csl.specs.Verdicts.{Verdict, Reading}
+use Rattle.csl.specs.Limit.{Value, limit, Each}
+use Rattle.csl.specs.Verdicts.{Verdict, least}
+use Rattle.csl.specs.Until.{untilQuotient, lowQuotient, highQuotient}
+use Rattle.csl.specs.Path.{valueAt, lowValue, highValue, Reads, reads-until}
 use Rattle.csl.specs.Ends.{EndsAt}
-use Rattle.csl.specs.Laws.Fraction.{under-left, under-right}
-use Rattle.csl.specs.Laws.Quotient.{low-under, high-over}
+use Rattle.csl.specs.Laws.Fraction.{below-trans}
+use Rattle.csl.specs.Laws.Value.{Fractions, Rises, limit-rises, each-over, each-under, reads-least}
+use Rattle.csl.specs.Laws.Quotient.{until-is, low-under, high-over}
 
-pub record Encloses (c : Chain) (t lower upper : ℕ) (x y : ℕ → Bool) (s : ℕ) : Type 0 where
-  pub below : (n : ℕ) → depth c t ≤ n → Below (billionths lower) (untilQuotient c t x y s n)
-  pub above : (n : ℕ) → depth c t ≤ n → Below (untilQuotient c t x y s n) (billionths upper)
+-- of each kind of path: its quotients are fractions, and a reading's lie over those of the least reading and under those of the greatest
+pub value-is : (c : Chain) (o : PathOf (ℕ → Bool)) (s : ℕ) → Fractions (valueAt c o s)
+value-is c (untilOf t x y) s = until-is c t x y s
 
-pub encloses : (c : Chain) (t : ℕ) (v w : ℕ → Verdict) (x y : ℕ → Bool) (s lower upper : ℕ) → s < c .states → EndsAt c t v w s lower upper
-    → Reading (c .states) v x → Reading (c .states) w y → Encloses c t lower upper x y s
-encloses c t v w x y s lower upper l e h k =
+pub low-rises : (c : Chain) (o : PathOf (ℕ → Verdict)) (x : PathOf (ℕ → Bool)) → Reads (c .states) o x → (s : ℕ) → s < c .states
+    → Rises (lowValue c o s) (valueAt c x s)
+low-rises c _ _ (reads-until t v w x y h k) s l =
+    limit-rises (depth c t) (lowQuotient c t v w s) (untilQuotient c t x y s) (λ n. low-under c t v w x y h k s n l)
+
+pub high-rises : (c : Chain) (o : PathOf (ℕ → Verdict)) (x : PathOf (ℕ → Bool)) → Reads (c .states) o x → (s : ℕ) → s < c .states
+    → Rises (valueAt c x s) (highValue c o s)
+high-rises c _ _ (reads-until t v w x y h k) s l =
+    limit-rises (depth c t) (untilQuotient c t x y s) (highQuotient c t v w s) (λ n. high-over c t v w x y h k s n l)
+
+pub record Encloses (c : Chain) (lower upper : ℕ) (x : PathOf (ℕ → Bool)) (s : ℕ) : Type 0 where
+  pub below : Each (λ y. Below (billionths lower) y) (valueAt c x s)
+  pub above : Each (λ y. Below y (billionths upper)) (valueAt c x s)
+
+pub encloses : (c : Chain) (o : PathOf (ℕ → Verdict)) (x : PathOf (ℕ → Bool)) (s lower upper : ℕ) → s < c .states → EndsAt c o s lower upper
+    → Reads (c .states) o x → Encloses c lower upper x s
+encloses c o x s lower upper l e h =
     record {
-      below = λ n d. under-right (billionths lower) _ (untilQuotient c t x y s n) (low-under c t v w x y h k s n l) (e .lower-side n d);
-      above = λ n d. under-left (untilQuotient c t x y s n) _ (billionths upper) (high-over c t v w x y h k s n l) (e .upper-side n d);
+      below = each-over (billionths lower) _ _ (low-rises c o x h s l) (e .lower-side);
+      above = each-under (billionths upper) _ _ (high-rises c o x h s l) (e .upper-side);
     }
+
+-- the lower end is not above the upper one
+common : (x : Value) → Fractions x → (lower upper : ℕ) → Each (λ y. Below (billionths lower) y) x → Each (λ y. Below y (billionths upper)) x
+    → lower ≤ upper
+common (limit d x) is lower upper h k =
+    let z : Below (billionths lower) (billionths upper)
+    = below-trans (billionths lower) (x d) (billionths upper) (is d) (h d (omega arith)) (k d (omega arith)) in
+    omega arith
+
+pub ordered-ends : (c : Chain) (o : PathOf (ℕ → Verdict)) (s lower upper : ℕ) → s < c .states → EndsAt c o s lower upper → lower ≤ upper
+ordered-ends c o s lower upper l e =
+    let i : Encloses c lower upper (mapped least o) s = encloses c o (mapped least o) s lower upper l e (reads-least (c .states) o) in
+    common (valueAt c (mapped least o) s) (value-is c (mapped least o) s) lower upper (i .below) (i .above)

@@ -5,20 +5,21 @@ use mathlib.Core.Bool.{Bool, true, false, cond}
 use Prim.Native.Nat.{ℕ, zero, suc, _+_, _*_, _≤_, _<_}
 use native.Mathlib.Omega.{arith}
 use Rattle.csl.specs.Limits.{billion}
-use Rattle.csl.specs.Formula.{Formula, until, Comparison, AtMost, AtLeast, More}
+use Rattle.csl.specs.Formula.{Formula, chance, until, untilOf, Comparison, AtMost, AtLeast, More}
 use Rattle.csl.specs.Fraction.{Below, billionths}
 use Rattle.csl.specs.Chain.{topRate, depth}
 use Rattle.csl.specs.Verdicts.{Verdict, No, Yes, Undecided, marked, judged, least, most, Decided}
-use Rattle.csl.specs.Ends.{EndsAt, slack, lowQuotient, highQuotient}
-use Rattle.csl.specs.Backing.{AtEach, Backed, NothingUndecided}
+use Rattle.csl.specs.Until.{lowQuotient, highQuotient, untilSlack}
+use Rattle.csl.specs.Ends.{EndsAt}
+use Rattle.csl.specs.Backing.{AtEach, NothingUndecided, NothingUndecidedIn}
 use Rattle.csl.specs.Truth.{Obeys}
 use Rattle.csl.specs.Report.{Reported, backingOf}
 use Rattle.csl.specs.Bench.{up, dead}
 use Rattle.csl.specs.Laws.Computing.{computing}
 use Rattle.csl.specs.Laws.Verdicts.{yes-or-no}
-use Rattle.csl.specs.Laws.SummedEnds.{more-room, wider}
+use Rattle.csl.specs.Laws.Fraction.{wider, more-room}
 use Rattle.csl.specs.Laws.Readings.{low-marks, high-marks, below-same, same-below}
-use Rattle.csl.specs.Laws.Ends.{until-one, until-nowhere}
+use Rattle.csl.specs.Laws.PointQuotients.{until-one, until-nowhere}
 use Rattle.csl.specs.Laws.PointEnds.{ends-certain, ends-impossible}
 use Rattle.csl.specs.Laws.Settled.{verdicts-obey}
 use Rattle.csl.specs.Laws.EightHours.{sheet, isUp, isDead, two-states, depth-is, at-least, at-most}
@@ -73,20 +74,22 @@ module _ (v w : ℕ → Verdict) (h : AtEach sheet (λ s. v s ≡ marked (isUp s
   second-no : w 0 ≡ No
   second-no = k 0 here ∙ dead-0
 
-  pub eight-hours-ends : EndsAt sheet 8 v w 0 3992010 3992011
+  pub eight-hours-ends : EndsAt sheet (untilOf 8 v w) 0 3992010 3992011
   eight-hours-ends =
       record {
         lower-side = low-least;
-        lower-near = λ n d. wider _ 3992011 (3992010 + slack sheet 8) (omega (arith, depth-is)) (low-most n d);
+        lower-near = λ n d. wider _ 3992011 (3992010 + untilSlack sheet 8) (omega (arith, depth-is)) (low-most n d);
         upper-side = high-most;
-        upper-near = λ n d. more-room _ 3992010 3992011 (slack sheet 8) (omega (arith, depth-is)) (high-least n d);
-        width = λ i j. omega (arith, depth-is);
+        upper-near = λ n d. more-room _ 3992010 3992011 (untilSlack sheet 8) (omega (arith, depth-is)) (high-least n d);
+        width = λ i. omega (arith, depth-is);
         lower-range = omega arith;
         upper-range = omega arith;
-        certain = λ e. yes-or-no e second-no;
-        impossible = λ e f. yes-or-no first-yes e;
-        lower-exact = λ z. absurd (moving z);
-        upper-exact = λ z. absurd (moving z);
+        points = record {
+          certain = λ e. yes-or-no e second-no;
+          impossible = λ e f. yes-or-no first-yes e;
+          lower-exact = λ z. absurd (moving z);
+          upper-exact = λ z. absurd (moving z);
+        };
       }
 
 -- the ends of `U 8 up dead` at both states
@@ -113,22 +116,23 @@ unfolding computing
 dead-yes = refl
 
 ends-8 : (v w : ℕ → Verdict) → AtEach sheet (λ s. v s ≡ marked (isUp s)) → AtEach sheet (λ s. w s ≡ marked (isDead s))
-    → AtEach sheet λ s. EndsAt sheet 8 v w s (lower8 s) (upper8 s)
+    → AtEach sheet λ s. EndsAt sheet (untilOf 8 v w) s (lower8 s) (upper8 s)
 ends-8 v w h k =
     at-two _ (rw dead-no (eight-hours-ends v w h k))
     (rw dead-yes (ends-certain sheet 8 v w 1 (omega (arith, two-states)) (k 1 (omega (arith, two-states)) ∙ dead-1)))
 
 -- a backing of `P r p U 8 up dead`, for any comparison and threshold
-unfoldable inner : (r : Comparison) (p : ℕ) → Reported sheet (until r p 8 up dead) lower8 upper8 (λ s. judged r p (lower8 s) (upper8 s))
-unfolding Backed
+unfoldable inner : (r : Comparison) (p : ℕ) → Reported sheet (chance r p (until 8 up dead)) lower8 upper8 (λ s. judged r p (lower8 s) (upper8 s))
 inner r p =
     record {
       first = λ s. marked (isUp s);
       first-backed = λ s l. refl;
       second = λ s. marked (isDead s);
       second-backed = λ s l. refl;
-      ends = ends-8 (λ s. marked (isUp s)) (λ s. marked (isDead s)) (λ s l. refl) (λ s l. refl);
-      verdict = λ s l. refl;
+      keeps = record {
+        ends = ends-8 (λ s. marked (isUp s)) (λ s. marked (isDead s)) (λ s l. refl) (λ s l. refl);
+        verdict = λ s l. refl;
+      };
     }
 
 -- "P >= 1 U 8 up P > 10000000 U 8 up dead": the inner `P` is no at state 0 and yes at state 1, as `dead` is
@@ -136,21 +140,22 @@ inner-is : AtEach sheet λ s. judged More 10000000 (lower8 s) (upper8 s) ≡ mar
 inner-is = at-two _ (rw dead-no) (rw dead-yes)
 
 abbrev nestedFormula : Formula
-nestedFormula = until AtLeast 1 8 up (until More 10000000 8 up dead)
+nestedFormula = chance AtLeast 1 (until 8 up (chance More 10000000 (until 8 up dead)))
 
 unfoldable nestedBacking : Reported sheet nestedFormula lower8 upper8 (λ s. Yes)
-unfolding Backed
 nestedBacking =
     record {
       first = λ s. marked (isUp s);
       first-backed = λ s l. refl;
       second = λ s. judged More 10000000 (lower8 s) (upper8 s);
       second-backed = record { lower = lower8; upper = upper8; keeps = inner More 10000000 };
-      ends = ends-8 (λ s. marked (isUp s)) (λ s. judged More 10000000 (lower8 s) (upper8 s)) (λ s l. refl) inner-is;
-      verdict = at-two _ (rw dead-no) (rw dead-yes);
+      keeps = record {
+        ends = ends-8 (λ s. marked (isUp s)) (λ s. judged More 10000000 (lower8 s) (upper8 s)) (λ s l. refl) inner-is;
+        verdict = at-two _ (rw dead-no) (rw dead-yes);
+      };
     }
 
-pub nested : Reported sheet (until AtLeast 1 8 up (until More 10000000 8 up dead)) lower8 upper8 (λ s. Yes)
+pub nested : Reported sheet (chance AtLeast 1 (until 8 up (chance More 10000000 (until 8 up dead)))) lower8 upper8 (λ s. Yes)
 nested = nestedBacking
 
 -- nothing is undecided in it, so its verdicts are a truth table
@@ -159,14 +164,16 @@ decided-mark true = tt
 decided-mark false = tt
 
 nested-decided : NothingUndecided sheet nestedFormula (λ s. Yes) (backingOf sheet nestedFormula lower8 upper8 (λ s. Yes) nestedBacking)
-unfolding Backed NothingUndecided backingOf nestedBacking inner
+unfolding NothingUndecided NothingUndecidedIn backingOf nestedBacking inner
 nested-decided = (
   λ s l. tt,
-  λ s l. decided-mark (isUp s),
-  (λ s l. rw (inner-is s l) (decided-mark (isDead s)), λ s l. decided-mark (isUp s), λ s l. decided-mark (isDead s)),
+  (
+    λ s l. decided-mark (isUp s),
+    (λ s l. rw (inner-is s l) (decided-mark (isDead s)), (λ s l. decided-mark (isUp s), λ s l. decided-mark (isDead s))),
+  ),
 )
 
-pub nested-obeys : Obeys sheet (until AtLeast 1 8 up (until More 10000000 8 up dead)) (λ s. true)
+pub nested-obeys : Obeys sheet (chance AtLeast 1 (until 8 up (chance More 10000000 (until 8 up dead)))) (λ s. true)
 nested-obeys =
     verdicts-obey sheet nestedFormula (λ s. Yes) (backingOf sheet nestedFormula lower8 upper8 (λ s. Yes) nestedBacking) nested-decided
 
@@ -191,20 +198,22 @@ module _ (v : ℕ → Verdict) (h : AtEach sheet (λ s. v s ≡ marked (isUp s))
   high-1 : (n : ℕ) → highQuotient sheet 8 v open8 0 n .top ≡ highQuotient sheet 8 v open8 0 n .bottom
   high-1 n = until-one sheet 8 (most v) (most open8) 0 (omega (arith, two-states)) (rw open-0) n
 
-  open-ends : EndsAt sheet 8 v open8 0 0 billion
+  open-ends : EndsAt sheet (untilOf 8 v open8) 0 0 billion
   open-ends =
       record {
         lower-side = λ n d. omega arith;
         lower-near = λ n d. omega (arith, low-0 n);
         upper-side = λ n d. omega (arith, high-1 n);
         upper-near = λ n d. omega (arith, high-1 n);
-        width = λ i j. absurd (rw open-0 at (j 0 (omega (arith, two-states))));
+        width = λ i. absurd (rw open-0 at (i .1 0 (omega (arith, two-states))));
         lower-range = omega arith;
         upper-range = omega arith;
-        certain = λ e. apart open-0 e;
-        impossible = λ e f. yes-or-no (h 0 (omega (arith, two-states)) ∙ up-0) e;
-        lower-exact = λ z. absurd (moving z);
-        upper-exact = λ z. absurd (moving z);
+        points = record {
+          certain = λ e. apart open-0 e;
+          impossible = λ e f. yes-or-no (h 0 (omega (arith, two-states)) ∙ up-0) e;
+          lower-exact = λ z. absurd (moving z);
+          upper-exact = λ z. absurd (moving z);
+        };
       }
 
 abbrev pub openUpper : ℕ → ℕ
@@ -213,15 +222,16 @@ openUpper s = cond (isUp s) billion 0
 abbrev pub openVerdict : ℕ → Verdict
 openVerdict s = cond (isUp s) Undecided No
 
-pub undecided : Reported sheet (until AtLeast 5 8 up (until AtMost 3992010 8 up dead)) (λ s. 0) openUpper openVerdict
-unfolding Backed
+pub undecided : Reported sheet (chance AtLeast 5 (until 8 up (chance AtMost 3992010 (until 8 up dead)))) (λ s. 0) openUpper openVerdict
 undecided =
     record {
       first = λ s. marked (isUp s);
       first-backed = λ s l. refl;
       second = open8;
       second-backed = record { lower = lower8; upper = upper8; keeps = inner AtMost 3992010 };
-      ends = at-two _ (rw up-yes (open-ends (λ s. marked (isUp s)) (λ s l. refl)))
-          (rw up-no (ends-impossible sheet 8 (λ s. marked (isUp s)) open8 1 (omega (arith, two-states)) up-1 open-1));
-      verdict = at-two _ (rw up-yes) (rw up-no);
+      keeps = record {
+        ends = at-two _ (rw up-yes (open-ends (λ s. marked (isUp s)) (λ s l. refl)))
+            (rw up-no (ends-impossible sheet 8 (λ s. marked (isUp s)) open8 1 (omega (arith, two-states)) up-1 open-1));
+        verdict = at-two _ (rw up-yes) (rw up-no);
+      };
     }

@@ -14,9 +14,9 @@ use Rattle.csl.specs.Text.{Text, bytes, same}
 use Rattle.csl.specs.Limits.{formulaDigits}
 use Rattle.csl.specs.Number.{isNumber, valueOf}
 use Rattle.csl.specs.Labels.{isWord}
-use Rattle.csl.specs.Formula.{Formula, always, label, negated, both, until, Comparison}
+use Rattle.csl.specs.Formula.{Formula, always, label, negated, both, chance, until, Comparison}
+use Rattle.csl.specs.Grammar.{Found, nothing, found, Reader, andThen, comparisonOf, onComparison, onNumber, onWord, pair, path, Head, truth, name, bang, ampersand, chances, other, headOf, state, readState, whole, Spells, spells-truth, spells-name, spells-not, spells-both, spells-until}
 use Rattle.csl.specs.Laws.Computing.{computing}
-use Rattle.csl.specs.Grammar.{Found, nothing, found, Reader, andThen, comparisonOf, onComparison, onNumber, onWord, pair, path, Head, truth, name, bang, ampersand, chance, other, headOf, state, readState, whole, Spells, spells-truth, spells-name, spells-not, spells-both, spells-until}
 
 -- what is found has been found before
 pub record Then (x : Found) (next : Formula → List Text → Found) (f : Formula) (rest : List Text) : Type 0 where
@@ -104,7 +104,7 @@ HeadIs w truth = w ≡ bytes "tt"
 HeadIs w name = (isWord w ≡ true) × (same w (bytes "tt") ≡ false)
 HeadIs w bang = w ≡ bytes "!"
 HeadIs w ampersand = w ≡ bytes "&"
-HeadIs w chance = w ≡ bytes "P"
+HeadIs w chances = w ≡ bytes "P"
 HeadIs w other = Unit {0}
 
 head-is : (w : Text) → HeadIs w (headOf w)
@@ -112,7 +112,7 @@ unfolding headOf HeadIs
 head-is w = go (same w (bytes "tt")) (isWord w) (same w (bytes "!")) (same w (bytes "&")) (same w (bytes "P")) refl refl refl refl refl
   where
     go : (a b c d e : Bool) → same w (bytes "tt") ≡ a → isWord w ≡ b → same w (bytes "!") ≡ c → same w (bytes "&") ≡ d → same w (bytes "P") ≡ e
-        → HeadIs w (cond a truth (cond b name (cond c bang (cond d ampersand (cond e chance other)))))
+        → HeadIs w (cond a truth (cond b name (cond c bang (cond d ampersand (cond e chances other)))))
     go true b c d e h i j k l = same-true _ _ h
     go false true c d e h i j k l = (i, h)
     go false false true d e h i j k l = same-true _ _ j
@@ -174,7 +174,7 @@ unfolding path
 until-sound read sound sign threshold r ts f rest e i h =
     let u = word-found (bytes "U") ts _ f rest h in
     let n = number-found (u .more) _ f rest (u .after) in
-    let p = pair-sound read sound (until r (valueOf threshold) (valueOf (n .token))) (n .more) f rest (n .after) in
+    let p = pair-sound read sound (λ a b. chance r (valueOf threshold) (until (valueOf (n .token)) a b)) (n .more) f rest (n .after) in
     record {
       tokens = bytes "P" ∷ sign ∷ threshold ∷ bytes "U" ∷ n .token ∷ p .s ++ p .t;
       spells = subst (λ x. Spells x (bytes "P" ∷ sign ∷ threshold ∷ bytes "U" ∷ n .token ∷ p .s ++ p .t)) (p .is)
@@ -214,7 +214,7 @@ state-sound read sound w ampersand i ts f rest h =
       spells = subst (λ y. Spells y (bytes "&" ∷ p .s ++ p .t)) (p .is) (spells-both (p .first) (p .second));
       split = ap (λ (y : Text). y ∷ ts) i ∙ ap (λ (l : List Text). bytes "&" ∷ l) (p .split);
     }
-state-sound read sound w chance i ts f rest h =
+state-sound read sound w chances i ts f rest h =
     let c = sign-found ts _ f rest h in
     let n = number-found (c .more) _ f rest (c .after) in
     let x = until-sound read sound (c .token) (n .token) (c .sign) (n .more) f rest (c .is) (n .is) (n .after) in
@@ -259,12 +259,12 @@ u-token ts next = refl
 until-complete : (read : Reader) (a b : Formula) (s t : List Text) (sign threshold hours : Text) (r : Comparison)
     → comparisonOf sign ≡ some r → isNumber formulaDigits threshold ≡ true → isNumber formulaDigits hours ≡ true
     → Complete read a s → Complete read b t → (rest : List Text)
-    → state read (bytes "P") chance (sign ∷ threshold ∷ bytes "U" ∷ hours ∷ (s ++ t ++ rest))
-    ≡ found (until r (valueOf threshold) (valueOf hours) a b) rest
+    → state read (bytes "P") chances (sign ∷ threshold ∷ bytes "U" ∷ hours ∷ (s ++ t ++ rest))
+    ≡ found (chance r (valueOf threshold) (until (valueOf hours) a b)) rest
 unfolding state path
 until-complete read a b s t sign threshold hours r e i j h k rest =
     sign-token sign _ _ r e ∙ number-token threshold _ _ i ∙ u-token _ _ ∙ number-token hours _ _ j
-    ∙ pair-complete read (until r (valueOf threshold) (valueOf hours)) a b s t h k rest
+    ∙ pair-complete read (λ a b. chance r (valueOf threshold) (until (valueOf hours) a b)) a b s t h k rest
 
 not-complete : (read : Reader) (a : Formula) (s rest : List Text) → Complete read a s → state read (bytes "!") bang (s ++ rest) ≡ found (negated a) rest
 unfolding state andThen
@@ -280,7 +280,7 @@ name-complete : (read : Reader) (w : Text) (rest : List Text) → isWord w ≡ t
 unfolding state headOf
 name-complete read w rest h i = rw (i, h) refl
 
-fixed-heads : (headOf (bytes "tt") ≡ truth) × (headOf (bytes "!") ≡ bang) × (headOf (bytes "&") ≡ ampersand) × (headOf (bytes "P") ≡ chance)
+fixed-heads : (headOf (bytes "tt") ≡ truth) × (headOf (bytes "!") ≡ bang) × (headOf (bytes "&") ≡ ampersand) × (headOf (bytes "P") ≡ chances)
 unfolding computing
 fixed-heads = (refl, refl, refl, refl)
 

@@ -1,4 +1,4 @@
--- The limit meaning against two ends: what a judgement says of the limit. Assumes nothing.
+-- What a judgement from two ends says of a value, and that a comparison and its opposite exclude each other. Assumes nothing.
 use mathlib.Core.Path.{_≡_, refl, sym}
 use mathlib.Core.Bool.{Bool, true, false, cond, true≢false}
 use Prim.Native.Nat.{ℕ, _+_, _*_, _≤_, _<_}
@@ -8,110 +8,124 @@ use lib.Dec.{leb, ltb}
 use borrow.Author.Tests.{leb-true, ltb-true}
 use Rattle.csl.specs.Formula.{Comparison, Less, AtMost, AtLeast, More}
 use Rattle.csl.specs.Fraction.{Fraction, IsFraction, Below, plus, billionths, part}
-use Rattle.csl.specs.Limit.{FromSome, LimitIs, opposite}
+use Rattle.csl.specs.Limit.{Value, limit, Each, FromSome, LimitIs, Holds, opposite}
 use Rattle.csl.specs.Verdicts.{Verdict, No, Yes, Undecided, negation, judged, judgedAtLeast, judgedMore, Agrees, Decided, asNo}
 use Rattle.csl.specs.Truth.{Entry}
+use Rattle.csl.specs.Laws.Value.{Fractions}
+
+-- what a verdict says, where T says what each comparison says
+unfoldable pub Says : Verdict → Comparison → (Comparison → Type 0) → Type 0
+Says Yes r T = T r
+Says No r T = T (opposite r)
+Says Undecided r T = Unit {0}
+
+abbrev pub Settles : Verdict → Comparison → ℕ → Value → Type 0
+Settles v r p x = Says v r (λ r. Holds r p x)
+
+-- ends from which each comparison follows
+module _ (T : Comparison → Type 0) (p lower upper : ℕ)
+    (at-least : p ≤ lower → T AtLeast) (less : upper < p → T Less) (at-most : upper ≤ p → T AtMost) (more : p < lower → T More) where
+  says-low : Says (judgedAtLeast p lower upper) AtLeast T
+  unfolding Says
+  says-low = go (leb p lower) (ltb upper p) refl refl
+    where
+      go : (a b : Bool) → leb p lower ≡ a → ltb upper p ≡ b → Says (cond a Yes (cond b No Undecided)) AtLeast T
+      go true b e f = at-least (leb-true _ _ e)
+      go false true e f = less (ltb-true _ _ f)
+      go false false e f = tt
+
+  says-high : Says (judgedMore p lower upper) More T
+  unfolding Says
+  says-high = go (ltb p lower) (leb upper p) refl refl
+    where
+      go : (a b : Bool) → ltb p lower ≡ a → leb upper p ≡ b → Says (cond a Yes (cond b No Undecided)) More T
+      go true b e f = more (ltb-true _ _ e)
+      go false true e f = at-most (leb-true _ _ f)
+      go false false e f = tt
+
+  negated-low : (v : Verdict) → Says v AtLeast T → Says (negation v) Less T
+  unfolding Says
+  negated-low No h = h
+  negated-low Yes h = h
+  negated-low Undecided h = tt
+
+  negated-high : (v : Verdict) → Says v More T → Says (negation v) AtMost T
+  unfolding Says
+  negated-high No h = h
+  negated-high Yes h = h
+  negated-high Undecided h = tt
+
+  -- a yes says that the comparison holds, a no that the opposite one does
+  pub says : (r : Comparison) → Says (judged r p lower upper) r T
+  says Less = negated-low (judgedAtLeast p lower upper) says-low
+  says AtMost = negated-high (judgedMore p lower upper) says-high
+  says AtLeast = says-low
+  says More = says-high
+
+-- quotients of which P holds from some depth on, and Q: at one of them both do
+pub record Common (P Q : Fraction → Type 0) : Type 0 where
+  pub at : Fraction
+  pub is : IsFraction at
+  pub left : P at
+  pub right : Q at
+
+-- limits: In P says that from some depth on all quotients are P
+module _ (In : (Fraction → Type 0) → Type 0) (p : ℕ) where
+  module _ (meet : (P Q : Fraction → Type 0) → In P → In Q → Common P Q) where
+    low-apart : LimitIs AtLeast p In → LimitIs Less p In → ⊥
+    low-apart h k =
+        let j : Common (λ y. Below (billionths p) (plus y (part (2 * k .m)))) (λ y. Below (plus y (part (k .m))) (billionths p))
+        = meet _ _ (h (2 * k .m) (omega (arith, k .from-one))) (k .holds) in
+        omega (arith, j .is, j .left, j .right)
+
+    high-apart : LimitIs AtMost p In → LimitIs More p In → ⊥
+    high-apart h k =
+        let j : Common (λ y. Below y (plus (billionths p) (part (2 * k .m)))) (λ y. Below (plus (billionths p) (part (k .m))) y)
+        = meet _ _ (h (2 * k .m) (omega (arith, k .from-one))) (k .holds) in
+        omega (arith, j .is, j .left, j .right)
+
+    pub limit-apart : (r : Comparison) → LimitIs r p In → LimitIs (opposite r) p In → ⊥
+    limit-apart Less h k = low-apart k h
+    limit-apart AtMost h k = high-apart h k
+    limit-apart AtLeast h k = low-apart h k
+    limit-apart More h k = high-apart k h
+
+  -- quotients between two ends from some depth on
+  module _ (lower upper : ℕ)
+      (between : (P : Fraction → Type 0) → ((y : Fraction) → Below (billionths lower) y → Below y (billionths upper) → P y) → In P) where
+    pub limit-says : (r : Comparison) → Says (judged r p lower upper) r (λ r. LimitIs r p In)
+    limit-says =
+        says (λ r. LimitIs r p In) p lower upper
+        (λ h m one. between _ λ y b a. omega (arith, mul-le-mul-right (y .bottom * m) h, mul-le-mul-right m b))
+        (λ h. record {
+          m = 1000000000;
+          from-one = omega arith;
+          holds = between _ λ y b a. omega (arith, mul-le-mul-right (y .bottom) h, a);
+        })
+        (λ h m one. between _ λ y b a. omega (arith, mul-le-mul-right (y .bottom * m) h, mul-le-mul-right m a))
+        (λ h. record {
+          m = 1000000000;
+          from-one = omega arith;
+          holds = between _ λ y b a. omega (arith, mul-le-mul-right (y .bottom) h, b);
+        })
+
+from-meet : (x : ℕ → Fraction) → ((n : ℕ) → IsFraction (x n)) → (P Q : Fraction → Type 0) → FromSome x P → FromSome x Q → Common P Q
+from-meet x is P Q h k =
+    let n : ℕ = h .begin + k .begin in
+    record { at = x n; is = is n; left = h .all n (omega arith); right = k .all n (omega arith) }
 
 -- a comparison and its opposite exclude each other
-module _ (x : ℕ → Fraction) (is : (n : ℕ) → IsFraction (x n)) (p : ℕ) where
-  low-apart : LimitIs AtLeast p x → LimitIs Less p x → ⊥
-  low-apart h k =
-      let j : FromSome (λ y. Below (billionths p) (plus y (part (2 * k .m)))) x = h (2 * k .m) (omega (arith, k .from-one)) in
-      let n : ℕ = j .begin + k .holds .begin in
-      omega (arith, is n, j .all n (omega arith), k .holds .all n (omega arith))
+pub apart : (x : Value) → Fractions x → (p : ℕ) (r : Comparison) → Holds r p x → Holds (opposite r) p x → ⊥
+apart (limit d x) is p r h k = limit-apart (FromSome x) p (from-meet x is) r h k
 
-  high-apart : LimitIs AtMost p x → LimitIs More p x → ⊥
-  high-apart h k =
-      let j : FromSome (λ y. Below y (plus (billionths p) (part (2 * k .m)))) x = h (2 * k .m) (omega (arith, k .from-one)) in
-      let n : ℕ = j .begin + k .holds .begin in
-      omega (arith, is n, j .all n (omega arith), k .holds .all n (omega arith))
-
-  pub apart : (r : Comparison) → LimitIs r p x → LimitIs (opposite r) p x → ⊥
-  apart Less h k = low-apart k h
-  apart AtMost h k = high-apart h k
-  apart AtLeast h k = low-apart h k
-  apart More h k = high-apart k h
-
--- what a verdict says of the limit
-unfoldable pub Settles : Verdict → Comparison → ℕ → (ℕ → Fraction) → Type 0
-Settles Yes r p x = LimitIs r p x
-Settles No r p x = LimitIs (opposite r) p x
-Settles Undecided r p x = Unit {0}
-
--- quotients between two ends from some depth on
-module _ (x : ℕ → Fraction) (lower upper d : ℕ)
-    (below : (n : ℕ) → d ≤ n → Below (billionths lower) (x n)) (above : (n : ℕ) → d ≤ n → Below (x n) (billionths upper)) where
-  at-least : (p : ℕ) → p ≤ lower → LimitIs AtLeast p x
-  at-least p h m one =
-      record {
-        begin = d;
-        all = λ n l. omega (arith, mul-le-mul-right (x n .bottom * m) h, mul-le-mul-right m (below n l));
-      }
-
-  less : (p : ℕ) → upper < p → LimitIs Less p x
-  less p h =
-      record {
-        m = 1000000000;
-        from-one = omega arith;
-        holds = record { begin = d; all = λ n l. omega (arith, mul-le-mul-right (x n .bottom) h, above n l) };
-      }
-
-  at-most : (p : ℕ) → upper ≤ p → LimitIs AtMost p x
-  at-most p h m one =
-      record {
-        begin = d;
-        all = λ n l. omega (arith, mul-le-mul-right (x n .bottom * m) h, mul-le-mul-right m (above n l));
-      }
-
-  more : (p : ℕ) → p < lower → LimitIs More p x
-  more p h =
-      record {
-        m = 1000000000;
-        from-one = omega arith;
-        holds = record { begin = d; all = λ n l. omega (arith, mul-le-mul-right (x n .bottom) h, below n l) };
-      }
-
-  settles-low : (p : ℕ) → Settles (judgedAtLeast p lower upper) AtLeast p x
-  unfolding Settles
-  settles-low p = go (leb p lower) (ltb upper p) refl refl
-    where
-      go : (a b : Bool) → leb p lower ≡ a → ltb upper p ≡ b → Settles (cond a Yes (cond b No Undecided)) AtLeast p x
-      go true b e f = at-least p (leb-true _ _ e)
-      go false true e f = less p (ltb-true _ _ f)
-      go false false e f = tt
-
-  settles-high : (p : ℕ) → Settles (judgedMore p lower upper) More p x
-  unfolding Settles
-  settles-high p = go (ltb p lower) (leb upper p) refl refl
-    where
-      go : (a b : Bool) → ltb p lower ≡ a → leb upper p ≡ b → Settles (cond a Yes (cond b No Undecided)) More p x
-      go true b e f = more p (ltb-true _ _ e)
-      go false true e f = at-most p (leb-true _ _ f)
-      go false false e f = tt
-
-  negated-low : (p : ℕ) (v : Verdict) → Settles v AtLeast p x → Settles (negation v) Less p x
-  unfolding Settles
-  negated-low p No h = h
-  negated-low p Yes h = h
-  negated-low p Undecided h = tt
-
-  negated-high : (p : ℕ) (v : Verdict) → Settles v More p x → Settles (negation v) AtMost p x
-  unfolding Settles
-  negated-high p No h = h
-  negated-high p Yes h = h
-  negated-high p Undecided h = tt
-
-  -- a yes says that the comparison holds of the limit, a no that the opposite one does
-  pub settles : (r : Comparison) (p : ℕ) → Settles (judged r p lower upper) r p x
-  settles Less p = negated-low p (judgedAtLeast p lower upper) (settles-low p)
-  settles AtMost p = negated-high p (judgedMore p lower upper) (settles-high p)
-  settles AtLeast p = settles-low p
-  settles More p = settles-high p
+pub settles : (x : Value) (lower upper : ℕ) → Each (λ y. Below (billionths lower) y) x → Each (λ y. Below y (billionths upper)) x
+    → (r : Comparison) (p : ℕ) → Settles (judged r p lower upper) r p x
+settles (limit d x) lower upper below above r p =
+    limit-says (FromSome x) p lower upper (λ P f. record { begin = d; all = λ n l. f (x n) (below n l) (above n l) }) r
 
 -- so an entry that obeys agrees
-pub entry-agrees : (x : ℕ → Fraction) (is : (n : ℕ) → IsFraction (x n)) (r : Comparison) (p : ℕ) (v : Verdict) (b : Bool)
-    → Settles v r p x → Entry r p x b → Agrees v b
-unfolding Settles Agrees
+pub entry-agrees : (x : Value) → Fractions x → (r : Comparison) (p : ℕ) (v : Verdict) (b : Bool) → Settles v r p x → Entry r p x b → Agrees v b
+unfolding Says Agrees
 entry-agrees x is r p No true h e = absurd (apart x is p r (e .if-yes refl) h)
 entry-agrees x is r p No false h e = refl
 entry-agrees x is r p Yes true h e = refl
@@ -119,8 +133,8 @@ entry-agrees x is r p Yes false h e = absurd (apart x is p r h (e .if-no refl))
 entry-agrees x is r p Undecided b h e = tt
 
 -- and a decided verdict is an entry that obeys
-pub entry-obeys : (x : ℕ → Fraction) (r : Comparison) (p : ℕ) (v : Verdict) → Decided v → Settles v r p x → Entry r p x (asNo v)
-unfolding Settles
+pub entry-obeys : (x : Value) (r : Comparison) (p : ℕ) (v : Verdict) → Decided v → Settles v r p x → Entry r p x (asNo v)
+unfolding Says
 entry-obeys x r p No d h = record { if-yes = λ e. absurd (true≢false (sym e)); if-no = λ e. h }
 entry-obeys x r p Yes d h = record { if-yes = λ e. h; if-no = λ e. absurd (true≢false e) }
 entry-obeys x r p Undecided d h = absurd d

@@ -6,9 +6,9 @@ use native.Mathlib.Omega.{arith}
 use native.Mathlib.Nat.{mul-pos}
 use Rattle.csl.specs.Fraction.{Fraction, IsFraction, times, sumUp}
 use Rattle.csl.specs.Chain.{Chain, load}
-use Rattle.csl.specs.Phase.{bit, untilPhase, stepValue, weight, quotient, untilQuotient}
+use Rattle.csl.specs.Phase.{bit, stepValue, weight, quotient}
 use Rattle.csl.specs.Verdicts.{Verdict, No, Yes, Undecided, Agrees, Reading, asNo, asYes, least, most}
-use Rattle.csl.specs.Ends.{lowQuotient, highQuotient}
+use Rattle.csl.specs.Until.{untilPhase, untilQuotient, lowQuotient, highQuotient}
 use Rattle.csl.specs.Laws.Fraction.{Under, under-sum, under-times, under-over, below-sum, times-below, sum-is, sum-some}
 use Rattle.csl.specs.Laws.Steps.{Starts, PhaseUnder, step-le, step-rises, divisor-some}
 

@@ -2,60 +2,65 @@
 use mathlib.Core.Path.{refl, sym, _∙_}
 use mathlib.Core.Bool.{Bool, true, false, not, _&&_, _||_}
 use Prim.Native.Nat.{ℕ}
-use Rattle.csl.specs.Formula.{Comparison, Formula, always, label, negated, both, until}
-use Rattle.csl.specs.Fraction.{Fraction, IsFraction}
+use Rattle.csl.specs.Formula.{Comparison, Formula, always, label, negated, both, chance, Path, until, PathOf, untilOf}
 use Rattle.csl.specs.Chain.{Chain}
-use Rattle.csl.specs.Phase.{untilQuotient}
-use Rattle.csl.specs.Verdicts.{Verdict, No, Yes, Undecided, Agrees, Reading, Sides, asNo}
-use Rattle.csl.specs.Backing.{AtEach, Backed, UntilBacked, SidesThroughout}
-use Rattle.csl.specs.Truth.{Throughout, Obeys}
-use Rattle.csl.specs.Laws.Quotient.{until-is}
-use Rattle.csl.specs.Laws.Ends.{ordered}
-use Rattle.csl.specs.Laws.Sides.{judged-sides}
-use Rattle.csl.specs.Laws.Judging.{Settles, apart}
+use Rattle.csl.specs.Limit.{Value}
+use Rattle.csl.specs.Verdicts.{Verdict, No, Yes, Undecided, Agrees, Sides, asNo}
+use Rattle.csl.specs.Path.{valueAt, Reads, reads-until}
+use Rattle.csl.specs.Backing.{AtEach, Backed, PathBacked, ChanceKeeps, SidesThroughout, SidesThroughoutIn}
+use Rattle.csl.specs.Truth.{Throughout, ThroughoutIn, Obeys, PathObeys, ChanceObeys}
+use Rattle.csl.specs.Laws.Value.{Fractions}
+use Rattle.csl.specs.Laws.Enclosure.{value-is, ordered-ends}
+use Rattle.csl.specs.Laws.Judging.{Says, Settles, apart}
+use Rattle.csl.specs.Laws.Follows.{follows-sides}
 use Rattle.csl.specs.Laws.Agree.{agrees-mark, agrees-not, agrees-and}
-use Rattle.csl.specs.Laws.Settled.{tables-agree, until-settles}
+use Rattle.csl.specs.Laws.Settled.{tables-agree, chance-settles}
+use Rattle.csl.specs.Laws.Backing.{kept-operands}
 
-pub throughout : (c : Chain) (f : Formula) (v : ℕ → Verdict) (b : ℕ → Bool) (k : Backed c f v) (o : Obeys c f b) → Throughout c f v b k o
-unfolding Backed Obeys Throughout
-throughout c always v b k o = tables-agree c always v b k o
-throughout c (label name) v b k o = tables-agree c (label name) v b k o
-throughout c (negated a) v b k o = (tables-agree c (negated a) v b k o, throughout c a _ _ (k .first-backed) (o .first-obeys))
-throughout c (both a e) v b k o =
-    (tables-agree c (both a e) v b k o, throughout c a _ _ (k .first-backed) (o .first-obeys), throughout c e _ _ (k .second-backed) (o .second-obeys))
-throughout c (until r p t a e) v b k o = (
-  tables-agree c (until r p t a e) v b k o,
-  throughout c a _ _ (k .keeps .first-backed) (o .first-obeys),
-  throughout c e _ _ (k .keeps .second-backed) (o .second-obeys),
-)
+mutual
+  unfolding Throughout ThroughoutIn
 
--- of which one part is that it agrees at the node itself
-pub agrees-here : (c : Chain) (f : Formula) (v : ℕ → Verdict) (b : ℕ → Bool) (k : Backed c f v) (o : Obeys c f b) → Throughout c f v b k o
-    → Reading (c .states) v b
-unfolding Backed Obeys Throughout
-agrees-here c always v b k o h = h
-agrees-here c (label name) v b k o h = h
-agrees-here c (negated a) v b k o h = h .0
-agrees-here c (both a e) v b k o h = h .0
-agrees-here c (until r p t a e) v b k o h = h .0
+  pub throughout : (c : Chain) (f : Formula) (v : ℕ → Verdict) (b : ℕ → Bool) (k : Backed c f v) (o : Obeys c f b) → Throughout c f v b k o
+  throughout c always v b k o = tables-agree c always v b k o
+  throughout c (label name) v b k o = tables-agree c (label name) v b k o
+  throughout c (negated a) v b k o = (tables-agree c (negated a) v b k o, throughout c a _ _ (k .first-backed) (o .first-obeys))
+  throughout c (both a e) v b k o = (
+    tables-agree c (both a e) v b k o,
+    throughout c a _ _ (k .first-backed) (o .first-obeys),
+    throughout c e _ _ (k .second-backed) (o .second-obeys),
+  )
+  throughout c (chance r p w) v b k o =
+      (tables-agree c (chance r p w) v b k o, throughout-in c w r p (k .lower) (k .upper) v b (k .keeps) o)
+
+  pub throughout-in : (c : Chain) (w : Path) (r : Comparison) (p : ℕ) (lower upper : ℕ → ℕ) (v : ℕ → Verdict) (b : ℕ → Bool)
+      (k : PathBacked c w (ChanceKeeps c r p lower upper v)) (o : PathObeys c w (ChanceObeys c r p b))
+      → ThroughoutIn c w (ChanceKeeps c r p lower upper v) (ChanceObeys c r p b) k o
+  throughout-in c (until t a e) r p lower upper v b k o =
+      (throughout c a _ _ (k .first-backed) (o .first-obeys), throughout c e _ _ (k .second-backed) (o .second-obeys))
 
 -- the rule of sides, of one `P` and of every `P`
-pub sides : (c : Chain) (r : Comparison) (p t : ℕ) (a e : Formula) (lower upper : ℕ → ℕ) (v : ℕ → Verdict)
-    → UntilBacked c r p t (Backed c a) (Backed c e) lower upper v → AtEach c λ s. Sides (v s) r p (lower s) (upper s)
-sides c r p t a e lower upper v k s l =
-    rw (k .verdict s l) (judged-sides p (lower s) (upper s) (ordered c t (k .first) (k .second) s (lower s) (upper s) l (k .ends s l)) r)
+pub sides : (c : Chain) (r : Comparison) (p : ℕ) (lower upper : ℕ → ℕ) (v : ℕ → Verdict) (o : PathOf (ℕ → Verdict))
+    → ChanceKeeps c r p lower upper v o → AtEach c λ s. Sides (v s) r p (lower s) (upper s)
+sides c r p lower upper v o k s l =
+    follows-sides c r p s (lower s) (upper s) (v s) o (k .verdict s l) (ordered-ends c o s (lower s) (upper s) l (k .ends s l))
 
-pub sides-throughout : (c : Chain) (f : Formula) (v : ℕ → Verdict) (k : Backed c f v) → SidesThroughout c f v k
-unfolding Backed SidesThroughout
-sides-throughout c always v k = tt
-sides-throughout c (label name) v k = tt
-sides-throughout c (negated a) v k = sides-throughout c a _ (k .first-backed)
-sides-throughout c (both a e) v k = (sides-throughout c a _ (k .first-backed), sides-throughout c e _ (k .second-backed))
-sides-throughout c (until r p t a e) v k = (
-  sides c r p t a e (k .lower) (k .upper) v (k .keeps),
-  sides-throughout c a _ (k .keeps .first-backed),
-  sides-throughout c e _ (k .keeps .second-backed),
-)
+mutual
+  unfolding SidesThroughout SidesThroughoutIn
+
+  pub sides-throughout : (c : Chain) (f : Formula) (v : ℕ → Verdict) (k : Backed c f v) → SidesThroughout c f v k
+  sides-throughout c always v k = tt
+  sides-throughout c (label name) v k = tt
+  sides-throughout c (negated a) v k = sides-throughout c a _ (k .first-backed)
+  sides-throughout c (both a e) v k = (sides-throughout c a _ (k .first-backed), sides-throughout c e _ (k .second-backed))
+  sides-throughout c (chance r p w) v k = (
+    sides c r p (k .lower) (k .upper) v _ (kept-operands c w (ChanceKeeps c r p (k .lower) (k .upper) v) (k .keeps)),
+    sides-throughout-in c w r p (k .lower) (k .upper) v (k .keeps),
+  )
+
+  pub sides-throughout-in : (c : Chain) (w : Path) (r : Comparison) (p : ℕ) (lower upper : ℕ → ℕ) (v : ℕ → Verdict)
+      (k : PathBacked c w (ChanceKeeps c r p lower upper v)) → SidesThroughoutIn c w (ChanceKeeps c r p lower upper v) k
+  sides-throughout-in c (until t a e) r p lower upper v k =
+      (sides-throughout c a _ (k .first-backed), sides-throughout c e _ (k .second-backed))
 
 -- one yes or no agrees with both verdicts
 pub record Together (v w : Verdict) : Type 0 where
@@ -87,10 +92,9 @@ together-right Undecided No h = refl
 together-right Undecided Yes h = refl
 together-right Undecided Undecided h = tt
 
--- two verdicts that both say true things of one limit
-settled-together : (x : ℕ → Fraction) → ((n : ℕ) → IsFraction (x n)) → (r : Comparison) (p : ℕ) (v w : Verdict)
-    → Settles v r p x → Settles w r p x → Together v w
-unfolding Settles Agrees
+-- two verdicts that both say true things of one value
+settled-together : (x : Value) → Fractions x → (r : Comparison) (p : ℕ) (v w : Verdict) → Settles v r p x → Settles w r p x → Together v w
+unfolding Says Agrees
 settled-together x is r p No No h k = record { entry = false; left = refl; right = refl }
 settled-together x is r p No Yes h k = absurd (apart x is p r k h)
 settled-together x is r p No Undecided h k = record { entry = false; left = refl; right = tt }
@@ -105,35 +109,56 @@ yes-yes : Together Yes Yes
 unfolding Agrees
 yes-yes = record { entry = true; left = refl; right = refl }
 
+-- operands of two backings of one path, and a reading of both
+pub record Shared (c : Chain) (K L : PathOf (ℕ → Verdict) → Type 0) : Type 0 where
+  pub one : PathOf (ℕ → Verdict)
+  pub other : PathOf (ℕ → Verdict)
+  pub reading : PathOf (ℕ → Bool)
+  pub one-read : Reads (c .states) one reading
+  pub other-read : Reads (c .states) other reading
+  pub one-kept : K one
+  pub other-kept : L other
+
 -- where one backing has yes no other has no
-pub backings-agree : (c : Chain) (f : Formula) (v w : ℕ → Verdict) → Backed c f v → Backed c f w → AtEach c λ s. Together (v s) (w s)
-unfolding Backed
-backings-agree c always v w k m s l = rw (k s l, m s l) yes-yes
-backings-agree c (label name) v w k m s l =
-    rw (k s l, m s l) (record { entry = c .mark name s; left = agrees-mark (c .mark name s); right = agrees-mark (c .mark name s) })
-backings-agree c (negated a) v w k m s l =
-    let h : Together (k .first s) (m .first s) = backings-agree c a _ _ (k .first-backed) (m .first-backed) s l in
-    rw (k .verdict s l, m .verdict s l)
-    (record { entry = not (h .entry); left = agrees-not _ _ (h .left); right = agrees-not _ _ (h .right) })
-backings-agree c (both a e) v w k m s l =
-    let h : Together (k .first s) (m .first s) = backings-agree c a _ _ (k .first-backed) (m .first-backed) s l in
-    let j : Together (k .second s) (m .second s) = backings-agree c e _ _ (k .second-backed) (m .second-backed) s l in
-    rw (k .verdict s l, m .verdict s l)
-    (record {
-      entry = h .entry && j .entry;
-      left = agrees-and _ _ _ _ (h .left) (j .left);
-      right = agrees-and _ _ _ _ (h .right) (j .right);
-    })
-backings-agree c (until r p t a e) v w k m s l =
-    let h : AtEach c λ u. Together (k .keeps .first u) (m .keeps .first u)
-    = backings-agree c a _ _ (k .keeps .first-backed) (m .keeps .first-backed) in
-    let j : AtEach c λ u. Together (k .keeps .second u) (m .keeps .second u)
-    = backings-agree c e _ _ (k .keeps .second-backed) (m .keeps .second-backed) in
-    let x : ℕ → Bool = λ u. either (k .keeps .first u) (m .keeps .first u) in
-    let y : ℕ → Bool = λ u. either (k .keeps .second u) (m .keeps .second u) in
-    rw (k .keeps .verdict s l, m .keeps .verdict s l)
-    (settled-together (untilQuotient c t x y s) (until-is c t x y s) r p _ _
-    (until-settles c r p t (k .keeps .first) (k .keeps .second) x y s (k .lower s) (k .upper s) l (k .keeps .ends s l)
-    (λ u q. together-left _ _ (h u q)) (λ u q. together-left _ _ (j u q)))
-    (until-settles c r p t (m .keeps .first) (m .keeps .second) x y s (m .lower s) (m .upper s) l (m .keeps .ends s l)
-    (λ u q. together-right _ _ (h u q)) (λ u q. together-right _ _ (j u q))))
+mutual
+  pub backings-agree : (c : Chain) (f : Formula) (v w : ℕ → Verdict) → Backed c f v → Backed c f w → AtEach c λ s. Together (v s) (w s)
+  backings-agree c always v w k m = λ s l. rw (k s l, m s l) yes-yes
+  backings-agree c (label name) v w k m = λ s l.
+      rw (k s l, m s l) (record { entry = c .mark name s; left = agrees-mark (c .mark name s); right = agrees-mark (c .mark name s) })
+  backings-agree c (negated a) v w k m = λ s l.
+      let h : Together (k .first s) (m .first s) = backings-agree c a _ _ (k .first-backed) (m .first-backed) s l in
+      rw (k .verdict s l, m .verdict s l)
+      (record { entry = not (h .entry); left = agrees-not _ _ (h .left); right = agrees-not _ _ (h .right) })
+  backings-agree c (both a e) v w k m = λ s l.
+      let h : Together (k .first s) (m .first s) = backings-agree c a _ _ (k .first-backed) (m .first-backed) s l in
+      let j : Together (k .second s) (m .second s) = backings-agree c e _ _ (k .second-backed) (m .second-backed) s l in
+      rw (k .verdict s l, m .verdict s l)
+      (record {
+        entry = h .entry && j .entry;
+        left = agrees-and _ _ _ _ (h .left) (j .left);
+        right = agrees-and _ _ _ _ (h .right) (j .right);
+      })
+  backings-agree c (chance r p path) v w k m = λ s l.
+      let h : Shared c (ChanceKeeps c r p (k .lower) (k .upper) v) (ChanceKeeps c r p (m .lower) (m .upper) w)
+      = shared c path r p (k .lower) (k .upper) v (m .lower) (m .upper) w (k .keeps) (m .keeps) in
+      settled-together (valueAt c (h .reading) s) (value-is c (h .reading) s) r p (v s) (w s)
+      (chance-settles c r p (k .lower) (k .upper) v (h .one) (h .reading) (h .one-kept) (h .one-read) s l)
+      (chance-settles c r p (m .lower) (m .upper) w (h .other) (h .reading) (h .other-kept) (h .other-read) s l)
+
+  pub shared : (c : Chain) (path : Path) (r : Comparison) (p : ℕ) (lower upper : ℕ → ℕ) (v : ℕ → Verdict) (lower' upper' : ℕ → ℕ) (w : ℕ → Verdict)
+      → PathBacked c path (ChanceKeeps c r p lower upper v) → PathBacked c path (ChanceKeeps c r p lower' upper' w)
+      → Shared c (ChanceKeeps c r p lower upper v) (ChanceKeeps c r p lower' upper' w)
+  shared c (until t a e) r p lower upper v lower' upper' w k m =
+      let h : AtEach c λ u. Together (k .first u) (m .first u) = backings-agree c a _ _ (k .first-backed) (m .first-backed) in
+      let j : AtEach c λ u. Together (k .second u) (m .second u) = backings-agree c e _ _ (k .second-backed) (m .second-backed) in
+      let x : ℕ → Bool = λ u. either (k .first u) (m .first u) in
+      let y : ℕ → Bool = λ u. either (k .second u) (m .second u) in
+      record {
+        one = _;
+        other = _;
+        reading = untilOf t x y;
+        one-read = reads-until t (k .first) (k .second) x y (λ u q. together-left _ _ (h u q)) (λ u q. together-left _ _ (j u q));
+        other-read = reads-until t (m .first) (m .second) x y (λ u q. together-right _ _ (h u q)) (λ u q. together-right _ _ (j u q));
+        one-kept = k .keeps;
+        other-kept = m .keeps;
+      }

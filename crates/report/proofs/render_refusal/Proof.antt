@@ -1,6 +1,6 @@
 -- `render_refusal` meets its contract: the test decides whether the three parts fit. Assumes nothing.
 use native.Mathlib.Omega.{arith}
-use Rattle.report.proofs.Fits.{refusal-short, refusal-shown}
+use Rattle.report.proofs.FitsLaw.{refusal-short, refusal-shown}
 use borrow.Author.Needs.{needs}
 use Rattle.report.proofs.render_refusal.Statement.{statement}
 use Rattle.report.proofs.render_refusal.Tie as tie
@@ -30,7 +30,7 @@ same-length : tie.Need-same-length
 same-length c = search needs
 
 returns-2 : tie.Need-returns-2
-returns-2 c = refusal-shown _ (omega arith) (c .before .before .before .before .before .before .before .before .before .before .write-bytes .ensures) (c .before .before .before .before .before .before .write-decimal .ensures) (c .before .before .write-byte .ensures)
+returns-2 c = search refusal-shown
 
 pub render-refusal-spec : {M : Type 1} → statement M
 render-refusal-spec =

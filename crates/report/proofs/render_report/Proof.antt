@@ -1,8 +1,8 @@
 -- `render_report` meets its contract: the tests decide whether all numbers are there and the lines fit. Assumes nothing.
 use native.Mathlib.Omega.{arith}
 use mathlib.Core.Path.{sym, _∙_}
-use borrow.Author.Tests.{not-true, not-false}
-use Rattle.report.proofs.Fits.{short, shown, listing-wrote, rows-room, few-lower, few-upper, few-bytes, no-head, no-rows, all-rows}
+use borrow.Author.Tests.{not-true}
+use Rattle.report.proofs.FitsLaw.{short, rows-room, few-lower, few-upper, few-bytes, no-head, no-rows, report-shown}
 use borrow.Author.Needs.{needs}
 use Rattle.report.proofs.render_report.Statement.{statement}
 use Rattle.report.proofs.render_report.Tie as tie
@@ -35,17 +35,15 @@ write-bytes-requires : tie.Need-write-bytes-requires
 write-bytes-requires c κs = search needs
 
 write-rows-requires : tie.Need-write-rows-requires
-write-rows-requires c κs = (
-  search needs,
-  rows-room _ _ _ _ _ (omega arith) (sym (c .before .before .before .before .before .before .before .rows-fit .ensures) ∙ not-false _ (c .before .before .before .before .before .before .if5 .left)) (c .before .before .before .write-bytes .ensures) (omega arith),
-)
+write-rows-requires c κs =
+    let before = c .before .before .before .before .before .before in
+    (search needs, rows-room _ _ _ _ _ (omega arith) (before .before .rows-fit .ensures) (before .if5 .left) (c .before .before .before .write-bytes .ensures) (omega arith))
 
 same-length : tie.Need-same-length
 same-length c = search needs
 
 returns-6 : tie.Need-returns-6
-returns-6 c = shown (all-rows _ _ _ _ _ _ (search needs) (omega arith) (sym (c .before .before .before .before .before .before .before .before .before .before .rows-fit .ensures) ∙ not-false _ (c .before .before .before .before .before .before .before .before .before .if5 .left)))
-    (listing-wrote _ _ _ _ _ (omega arith) (c .before .before .before .before .before .before .write-bytes .ensures) (c .before .before .write-rows .ensures))
+returns-6 c = search (needs, report-shown)
 
 pub render-report-spec : {M : Type 1} → statement M
 render-report-spec =

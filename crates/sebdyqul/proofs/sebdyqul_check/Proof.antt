@@ -4,14 +4,21 @@ use borrow.Author.Needs.{needs}
 use Rattle.sebdyqul.proofs.sebdyqul_check.Statement.{statement}
 use Rattle.sebdyqul.proofs.sebdyqul_check.Tie as tie
 
+-- from the place after an answer back to the place after the call
+abbrev checked : tie.After-known-told → tie.After-check
+checked c = c .before .before .before .before .before .before .before .before .before .before .before .before .before .before .before
+
+abbrev told : tie.After-known-told2 → tie.After-check
+told c = c .before .before .before .before .before .before .before .before .before .before .before .before .before .before .before
+
 check-requires : tie.Need-check-requires
 check-requires c κs = search needs
 
-enum-known-d : tie.Need-enum-known-d
-enum-known-d c = search needs
+enum-known-answer : tie.Need-enum-known-answer
+enum-known-answer c = search needs
 
-enum-known-number : tie.Need-enum-known-number
-enum-known-number c = search needs
+enum-known-answer-2 : tie.Need-enum-known-answer-2
+enum-known-answer-2 c = search needs
 
 same-length : tie.Need-same-length
 same-length c = search needs
@@ -32,7 +39,7 @@ same-length-6 : tie.Need-same-length-6
 same-length-6 c = search needs
 
 returns : tie.Need-returns
-returns c = accepted-called _ _ _ _ (c .before .before .before .before .before .before .before .before .before .before .before .before .before .before .before .check .ensures) _ _ (c .before .d .given .1)
+returns c = accepted-called _ _ _ _ (checked c .check .ensures .0) _ _ (c .before .answer .given .1)
 
 same-length-7 : tie.Need-same-length-7
 same-length-7 c = search needs
@@ -53,15 +60,15 @@ same-length-12 : tie.Need-same-length-12
 same-length-12 c = search needs
 
 returns-2 : tie.Need-returns-2
-returns-2 c = refused-called _ _ _ _ (c .before .before .before .before .before .before .before .before .before .before .before .before .before .before .before .check .ensures) _ _ (c .before .number .given .1)
+returns-2 c = refused-called _ _ _ _ (told c .check .ensures .0) _ _ (c .before .answer2 .given .1)
 
 pub sebdyqul-check-spec : {M : Type 1} → statement M
 sebdyqul-check-spec =
     tie.close
     (tie.spec
     check-requires
-    enum-known-d
-    enum-known-number
+    enum-known-answer
+    enum-known-answer-2
     same-length
     same-length-2
     same-length-3

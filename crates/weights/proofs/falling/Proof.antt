@@ -5,19 +5,28 @@ use Rattle.weights.proofs.falling.Statement.{statement}
 use Rattle.weights.proofs.falling.Tie as tie
 
 abbrev Inv-loop : tie.InvT-loop
-Inv-loop w₀ m a b k₀ w k = Inv w₀ w m a b k
+Inv-loop words₀ from m a b k₀ words k = Inv words₀ words from m a b k
 
 abbrev μ-loop : tie.MeasureT-loop
-μ-loop w₀ m a b k₀ w k = k
+μ-loop words₀ from m a b k₀ words k = k
 
-mul-w : tie.Need-mul-w Inv-loop μ-loop
-mul-w c = search (needs, falling-laws)
+add-words : tie.Need-add-words Inv-loop μ-loop
+add-words c = search (needs, falling-laws)
 
-slice-write-w : tie.Need-slice-write-w Inv-loop μ-loop
-slice-write-w c = search (needs, falling-laws)
+mul-words : tie.Need-mul-words Inv-loop μ-loop
+mul-words c = search (needs, falling-laws)
+
+slice-write-words : tie.Need-slice-write-words Inv-loop μ-loop
+slice-write-words c = search (needs, falling-laws)
 
 loop-holds : tie.Need-loop-holds Inv-loop μ-loop
 loop-holds c = search (needs, falling-laws)
+
+sub-n : tie.Need-sub-n Inv-loop μ-loop
+sub-n c = search (needs, falling-laws)
+
+add-before : tie.Need-add-before Inv-loop μ-loop
+add-before c = search (needs, falling-laws)
 
 mul-before : tie.Need-mul-before Inv-loop μ-loop
 mul-before c = search (needs, falling-laws)
@@ -28,17 +37,14 @@ slice-read-before c = search (needs, falling-laws)
 before-requires : tie.Need-before-requires Inv-loop μ-loop
 before-requires c κs = search (needs, falling-laws)
 
-sub-w : tie.Need-sub-w Inv-loop μ-loop
-sub-w c = search (needs, falling-laws)
+add-words-2 : tie.Need-add-words-2 Inv-loop μ-loop
+add-words-2 c = search (needs, falling-laws)
 
-mul-w-2 : tie.Need-mul-w-2 Inv-loop μ-loop
-mul-w-2 c = search (needs, falling-laws)
+mul-words-2 : tie.Need-mul-words-2 Inv-loop μ-loop
+mul-words-2 c = search (needs, falling-laws)
 
-slice-write-w-2 : tie.Need-slice-write-w-2 Inv-loop μ-loop
-slice-write-w-2 c = search (needs, falling-laws)
-
-sub-k : tie.Need-sub-k Inv-loop μ-loop
-sub-k c = search (needs, falling-laws)
+slice-write-words-2 : tie.Need-slice-write-words-2 Inv-loop μ-loop
+slice-write-words-2 c = search (needs, falling-laws)
 
 loop-less : tie.Need-loop-less Inv-loop μ-loop
 loop-less c = search (needs, falling-laws)
@@ -58,16 +64,18 @@ falling-spec =
     (tie.spec
     Inv-loop
     μ-loop
-    mul-w
-    slice-write-w
+    add-words
+    mul-words
+    slice-write-words
     loop-holds
+    sub-n
+    add-before
     mul-before
     slice-read-before
     before-requires
-    sub-w
-    mul-w-2
-    slice-write-w-2
-    sub-k
+    add-words-2
+    mul-words-2
+    slice-write-words-2
     loop-less
     loop-again
     same-length

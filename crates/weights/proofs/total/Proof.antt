@@ -1,45 +1,45 @@
 -- `total` meets its contract. Assumes nothing.
-use Prim.Native.Nat.{_-_, _+_}
 use borrow.Author.Needs.{needs}
+use Prim.Native.Nat.{_+_, _-_}
 use Rattle.weights.proofs.TotalLaw.{Inv, total-laws}
 use Rattle.weights.proofs.total.Statement.{statement}
 use Rattle.weights.proofs.total.Tie as tie
 
 abbrev Inv-loop : tie.InvT-loop
-Inv-loop w m d t₀ k₀ t k = Inv w m d t k
+Inv-loop words from m d t₀ k₀ t k = Inv words from m d t k
 
 abbrev μ-loop : tie.MeasureT-loop
-μ-loop w m d t₀ k₀ t k = d + 1 - k
+μ-loop words from m d t₀ k₀ t k = d + 1 - k
 
-mul-t : tie.Need-mul-t Inv-loop μ-loop
-mul-t c = search (needs, total-laws)
+add-at-most : tie.Need-add-at-most Inv-loop μ-loop
+add-at-most c = search (needs, total-laws)
 
-shared-slice-read-t : tie.Need-shared-slice-read-t Inv-loop μ-loop
-shared-slice-read-t c = search (needs, total-laws)
+mul-at-most : tie.Need-mul-at-most Inv-loop μ-loop
+mul-at-most c = search (needs, total-laws)
 
-apart-requires : tie.Need-apart-requires Inv-loop μ-loop
-apart-requires c κs = search (needs, total-laws)
+shared-slice-read-at-most : tie.Need-shared-slice-read-at-most Inv-loop μ-loop
+shared-slice-read-at-most c = search (needs, total-laws)
 
-add-t : tie.Need-add-t Inv-loop μ-loop
-add-t c = search (needs, total-laws)
+at-most-requires : tie.Need-at-most-requires Inv-loop μ-loop
+at-most-requires c κs = search (needs, total-laws)
 
 loop-holds : tie.Need-loop-holds Inv-loop μ-loop
 loop-holds c = search (needs, total-laws)
 
-mul-t-2 : tie.Need-mul-t-2 Inv-loop μ-loop
-mul-t-2 c = search (needs, total-laws)
+add-at-most-2 : tie.Need-add-at-most-2 Inv-loop μ-loop
+add-at-most-2 c = search (needs, total-laws)
 
-shared-slice-read-t-2 : tie.Need-shared-slice-read-t-2 Inv-loop μ-loop
-shared-slice-read-t-2 c = search (needs, total-laws)
+mul-at-most-2 : tie.Need-mul-at-most-2 Inv-loop μ-loop
+mul-at-most-2 c = search (needs, total-laws)
 
-apart-requires-2 : tie.Need-apart-requires-2 Inv-loop μ-loop
-apart-requires-2 c κs = search (needs, total-laws)
+shared-slice-read-at-most-2 : tie.Need-shared-slice-read-at-most-2 Inv-loop μ-loop
+shared-slice-read-at-most-2 c = search (needs, total-laws)
 
-add-t-2 : tie.Need-add-t-2 Inv-loop μ-loop
-add-t-2 c = search (needs, total-laws)
+at-most-requires-2 : tie.Need-at-most-requires-2 Inv-loop μ-loop
+at-most-requires-2 c κs = search (needs, total-laws)
 
-add-t-3 : tie.Need-add-t-3 Inv-loop μ-loop
-add-t-3 c = search (needs, total-laws)
+add-t : tie.Need-add-t Inv-loop μ-loop
+add-t c = search (needs, total-laws)
 
 add-k : tie.Need-add-k Inv-loop μ-loop
 add-k c = search (needs, total-laws)
@@ -59,16 +59,16 @@ total-spec =
     (tie.spec
     Inv-loop
     μ-loop
-    mul-t
-    shared-slice-read-t
-    apart-requires
-    add-t
+    add-at-most
+    mul-at-most
+    shared-slice-read-at-most
+    at-most-requires
     loop-holds
-    mul-t-2
-    shared-slice-read-t-2
-    apart-requires-2
-    add-t-2
-    add-t-3
+    add-at-most-2
+    mul-at-most-2
+    shared-slice-read-at-most-2
+    at-most-requires-2
+    add-t
     add-k
     loop-less
     loop-again

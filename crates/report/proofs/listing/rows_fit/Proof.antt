@@ -5,7 +5,7 @@ use mathlib.Core.Path.{_≡_}
 use Prim.Native.Nat.{_≤_, _+_, _-_}
 use lib.ListN.{length}
 use Rattle.report.specs.Listing.{rows}
-use Rattle.report.proofs.Lines.{fit-none, fit-more, fit-no, fit-yes}
+use Rattle.report.proofs.LinesLaw.{fit-none, fit-more, fit-no, fit-yes}
 use Rattle.report.proofs.listing.rows_fit.Statement.{statement}
 use Rattle.report.proofs.listing.rows_fit.Tie as tie
 
@@ -40,7 +40,7 @@ row-length-requires : tie.Need-row-length-requires Inv-loop μ-loop
 row-length-requires c κs = tt
 
 returns : tie.Need-returns Inv-loop μ-loop
-returns c = fit-no _ _ _ _ (c .before .before .before .before .before .before .before .loop .i) _ _ _ (c .before .before .from-byte .ensures) (c .before .row-length .ensures) (c .before .before .before .before .before .before .before .loop .inv .1) (omega arith) (omega arith)
+returns c = search (needs, fit-no)
 
 add-i : tie.Need-add-i Inv-loop μ-loop
 add-i c = search needs
@@ -49,7 +49,7 @@ loop-less : tie.Need-loop-less Inv-loop μ-loop
 loop-less c = omega arith
 
 loop-again : tie.Need-loop-again Inv-loop μ-loop
-loop-again c = (omega arith, fit-more _ _ _ _ (c .before .before .before .before .before .before .before .loop .i) _ (c .before .before .from-byte .ensures) (c .before .row-length .ensures) (c .before .before .before .before .before .before .before .loop .inv .1) (omega arith))
+loop-again c = (omega arith, search (needs, fit-more))
 
 returns-2 : tie.Need-returns-2 Inv-loop μ-loop
 returns-2 c = fit-yes _ _ _ _ (c .before .loop .i) _ _ _ (c .before .loop .inv .1) (omega arith) (omega arith)

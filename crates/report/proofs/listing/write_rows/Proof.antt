@@ -4,9 +4,9 @@ use native.Mathlib.Omega.{arith}
 use mathlib.Core.Path.{_≡_}
 use Prim.Native.Nat.{_≤_, _-_}
 use lib.ListN.{length}
-use Rattle.writer.specs.Place.{Wrote}
+use Rattle.report.specs.Place.{Wrote}
 use Rattle.report.specs.Listing.{rows}
-use Rattle.report.proofs.Lines.{lines-laws, lines-more}
+use Rattle.report.proofs.LinesLaw.{lines-laws, lines-more}
 use Rattle.report.proofs.listing.write_rows.Statement.{statement}
 use Rattle.report.proofs.listing.write_rows.Tie as tie
 

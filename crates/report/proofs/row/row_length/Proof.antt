@@ -1,7 +1,7 @@
 -- `row_length` meets its contract: the parts add up. Assumes nothing.
 use native.Mathlib.Omega.{arith}
-use Rattle.values.specs.Paper.{verdictOf}
-use Rattle.report.proofs.Parts.{row-length}
+use Rattle.verdicts.specs.Paper.{verdictOf}
+use Rattle.report.proofs.PartsLaw.{row-length}
 use borrow.Author.Needs.{needs}
 use Rattle.report.proofs.row.row_length.Statement.{statement}
 use Rattle.report.proofs.row.row_length.Tie as tie

@@ -1,6 +1,5 @@
 -- `write_field` meets its contract: the number stands behind the comma. Assumes nothing.
-use native.Mathlib.Omega.{arith}
-use Rattle.report.proofs.Parts.{field-wrote}
+use Rattle.report.proofs.PartsLaw.{field-wrote}
 use borrow.Author.Needs.{needs}
 use Rattle.report.proofs.row.write_field.Statement.{statement}
 use Rattle.report.proofs.row.write_field.Tie as tie
@@ -15,7 +14,7 @@ same-length : tie.Need-same-length
 same-length c = search needs
 
 returns : tie.Need-returns
-returns c = field-wrote _ (omega arith) (c .before .before .before .before .before .before .write-byte .ensures) (c .before .before .write-decimal .ensures)
+returns c = search (needs, field-wrote)
 
 pub write-field-spec : {M : Type 1} → statement M
 write-field-spec =

@@ -1,5 +1,5 @@
 -- `write_row` meets its contract: each part has room, and stands behind the one before. Assumes nothing.
-use Rattle.report.proofs.Parts.{row-laws, room-depth}
+use Rattle.report.proofs.PartsLaw.{row-laws, room-depth}
 use borrow.Author.Needs.{needs}
 use Rattle.report.proofs.row.write_row.Statement.{statement}
 use Rattle.report.proofs.row.write_row.Tie as tie

@@ -1,7 +1,5 @@
 -- `write_answer` meets its contract: what the checker promises, rendered. Assumes nothing.
 use native.Mathlib.Omega.{arith}
-use mathlib.Core.Path.{ap}
-use Rattle.labels.specs.declared.Facts.{Facts}
 use Rattle.sheetcheck.proofs.Printing.{answer-text, text-answered}
 use borrow.Author.Needs.{needs}
 use Rattle.sheetcheck.proofs.answer.write_answer.Statement.{statement}
@@ -28,9 +26,6 @@ slice-aggregate-check-6 c = search needs
 check-requires : tie.Need-check-requires
 check-requires c κs = search needs
 
-read-requires : tie.Need-read-requires
-read-requires c κs = search needs
-
 slice-aggregate-render : tie.Need-slice-aggregate-render
 slice-aggregate-render c = search needs
 
@@ -55,10 +50,9 @@ same-length c = search needs
 returns : tie.Need-returns
 returns c =
     let rendered = c .before .before .before .before in
-    let checked = rendered .before .before .before .before .before .before .before .before .before .before .before .before in
+    let checked = rendered .before .before .before .before .before .before .before .before .before .before .before in
     text-answered _
-    (answer-text _ _ _ _ _ _ _ _ (checked .before .before .before .before .before .before .before .before .before .before .before .pre) (rendered .render .ensures) (checked .check .ensures)
-    (ap (λ (f : Facts). f .states) (rendered .before .before .before .before .before .read .ensures))
+    (answer-text _ _ _ _ _ _ _ _ (checked .before .before .before .before .before .before .before .before .before .before .before .pre) (rendered .render .ensures) (checked .check .ensures .0) (checked .check .ensures .1)
     (record { lowers = omega arith; uppers = omega arith; bytes = omega arith; words = omega arith; vectors = omega arith; marks = omega arith }))
     (c .before .length-of .ensures) (c .number-in .ensures)
 
@@ -73,7 +67,6 @@ write-answer-spec =
     slice-aggregate-check-5
     slice-aggregate-check-6
     check-requires
-    read-requires
     slice-aggregate-render
     slice-aggregate-render-2
     slice-aggregate-render-3

@@ -1,0 +1,52 @@
+-- The numbers that the code of until works out, from a chain and the two operands' verdicts: rounded step values, and the two ends at one
+-- state. Assumes nothing.
+use mathlib.Core.Path.{_≡_}
+use mathlib.Core.Bool.{Bool, true, false, cond}
+use Prim.Native.Nat.{ℕ, suc, _+_, _*_, _/_, _≤_, _<_}
+use lib.Dec.{eqb}
+use Rattle.csl.specs.Limits.{billion}
+use Rattle.csl.specs.Chain.{Chain, topRate}
+use Rattle.csl.specs.Phase.{Phase, bit, moved}
+use Rattle.csl.specs.Verdicts.{Verdict, No, Yes, Undecided, asNo, asYes}
+use Rattle.bounds.specs.Unit.{one}
+use Rattle.bounds.specs.Ends.{lowerEnd}
+use Rattle.bounds.specs.Upper.{upperEnd}
+-- the verdict of a byte, for those that build on this crate
+pub use Rattle.verdicts.specs.Byte.{verdictAt}
+
+-- which rule a later step follows: value 1; value 0; moved and divided by q
+abbrev pub settled : Bool → Bool → ℕ → ℕ
+settled true nil x = one
+settled false true x = 0
+settled false false x = x
+
+-- the step values of a phase whose whole is 1, each step's rounded down from those of the step before; val k s is that of state s at
+-- step k
+pub record Rounds (c : Chain) (ph : Phase) (val : ℕ → ℕ → ℕ) : Type 0 where
+  pub start : (s : ℕ) → s < c .states → val 0 s ≡ one * ph .start s
+  pub next : (k s : ℕ) → s < c .states → val (suc k) s ≡ settled (ph .one s) (ph .nil s) (moved c (val k) s / topRate c)
+
+-- lower values of any phase: those of step 0 at most e units below the exact ones, and then each step's rounded down from those of the
+-- step before
+pub record Runs (c : Chain) (ph : Phase) (e : ℕ) (val : ℕ → ℕ → ℕ) : Type 0 where
+  pub below : (s : ℕ) → s < c .states → val 0 s * ph .whole ≤ one * ph .start s
+  pub near : (s : ℕ) → s < c .states → one * ph .start s ≤ (val 0 s + e) * ph .whole
+  pub next : (k s : ℕ) → s < c .states → val (suc k) s ≡ settled (ph .one s) (ph .nil s) (moved c (val k) s / topRate c)
+
+-- "A state where the second operand is yes has both ends 1,000,000,000; one where both operands are no has both ends 0": the end at a
+-- state whose operands have the verdicts v and w, and x where the rule says nothing
+abbrev pub pointed : Verdict → Verdict → ℕ → ℕ
+pointed v Yes x = billion
+pointed No No x = 0
+pointed Yes No x = x
+pointed Undecided No x = x
+pointed v Undecided x = x
+
+-- A state's lower end: v and w are the operands' verdicts there, a / b the load, d the depth, low k the state's rounded value at step k
+-- with undecided operand states read as no. "With load 0 each end is the exact value of its reading."
+abbrev pub untilLowerOf : (a b d : ℕ) → Verdict → Verdict → (ℕ → ℕ) → ℕ
+untilLowerOf a b d v w low = pointed v w (cond (eqb a 0) (billion * bit (asNo w)) (lowerEnd a b (a / b) d low))
+
+-- Its upper end: high k is the state's rounded value at step k with undecided operand states read as yes.
+abbrev pub untilUpperOf : (a b d : ℕ) → Verdict → Verdict → (ℕ → ℕ) → ℕ
+untilUpperOf a b d v w high = pointed v w (cond (eqb a 0) (billion * bit (asYes w)) (upperEnd a b (a / b) d 0 high))

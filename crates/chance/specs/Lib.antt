@@ -1,2 +1,0 @@
--- The tokens between `P` and its operands.
-pub mod Chance

@@ -1,0 +1,46 @@
+-- `clear_all` meets its contract. Assumes nothing.
+use Rattle.checker.proofs.ReportLaw.{all-cleared, rows-fit}
+use borrow.Author.Needs.{needs}
+use Rattle.checker.proofs.report.clear_all.Statement.{statement}
+use Rattle.checker.proofs.report.clear_all.Tie as tie
+
+length-requires : tie.Need-length-requires
+length-requires c κs = search needs
+
+clear-words-requires : tie.Need-clear-words-requires
+clear-words-requires c κs = search needs
+
+clear-words-requires-2 : tie.Need-clear-words-requires-2
+clear-words-requires-2 c κs = search needs
+
+mul-clear : tie.Need-mul-clear
+mul-clear c = search (needs, rows-fit)
+
+clear-requires : tie.Need-clear-requires
+clear-requires c κs = search needs
+
+same-length : tie.Need-same-length
+same-length c = search needs
+
+same-length-2 : tie.Need-same-length-2
+same-length-2 c = search needs
+
+same-length-3 : tie.Need-same-length-3
+same-length-3 c = search needs
+
+returns : tie.Need-returns
+returns c = search (needs, all-cleared)
+
+pub clear-all-spec : {M : Type 1} → statement M
+clear-all-spec =
+    tie.close
+    (tie.spec
+    length-requires
+    clear-words-requires
+    clear-words-requires-2
+    mul-clear
+    clear-requires
+    same-length
+    same-length-2
+    same-length-3
+    returns)

@@ -1,0 +1,62 @@
+-- `decide_all` meets its contract. Assumes nothing.
+use Rattle.checker.proofs.ReportLaw.{decide-laws, store-asked, some, decide-asked, all-decided}
+use borrow.Author.Needs.{needs}
+use Rattle.checker.proofs.report.decide_all.Statement.{statement}
+use Rattle.checker.proofs.report.decide_all.Tie as tie
+
+sub-root : tie.Need-sub-root
+sub-root c = search (needs, some)
+
+mul-rows : tie.Need-mul-rows
+mul-rows c = search (needs, decide-laws)
+
+store-requires : tie.Need-store-requires
+store-requires c κs = search (needs, store-asked)
+
+clear-requires : tie.Need-clear-requires
+clear-requires c κs = search (needs, decide-laws)
+
+slice-reshare-prefix-decide : tie.Need-slice-reshare-prefix-decide
+slice-reshare-prefix-decide c = search (needs, decide-laws)
+
+slice-aggregate-decide : tie.Need-slice-aggregate-decide
+slice-aggregate-decide c = search (needs, decide-laws)
+
+slice-relend-prefix-decide : tie.Need-slice-relend-prefix-decide
+slice-relend-prefix-decide c = search (needs, decide-laws)
+
+slice-aggregate-decide-2 : tie.Need-slice-aggregate-decide-2
+slice-aggregate-decide-2 c = search (needs, decide-laws)
+
+decide-requires : tie.Need-decide-requires
+decide-requires c κs = search (needs, decide-asked)
+
+same-length : tie.Need-same-length
+same-length c = search (needs, decide-laws)
+
+same-length-2 : tie.Need-same-length-2
+same-length-2 c = search (needs, decide-laws)
+
+same-length-3 : tie.Need-same-length-3
+same-length-3 c = search (needs, decide-laws)
+
+returns : tie.Need-returns
+returns c = search (needs, all-decided)
+
+pub decide-all-spec : {M : Type 1} → statement M
+decide-all-spec =
+    tie.close
+    (tie.spec
+    sub-root
+    mul-rows
+    store-requires
+    clear-requires
+    slice-reshare-prefix-decide
+    slice-aggregate-decide
+    slice-relend-prefix-decide
+    slice-aggregate-decide-2
+    decide-requires
+    same-length
+    same-length-2
+    same-length-3
+    returns)

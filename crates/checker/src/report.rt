@@ -1,0 +1,85 @@
+// The report of a job that passed all tests.
+use formula::Nodes;
+use refusals::Dimensions;
+ghost use Rattle.checker.specs.Job.{buffers};
+ghost use Rattle.checker.specs.Report.{DecideAll, Decided, ClearAsked, Cleared, ReportAsked, ReportLeft};
+
+// Stores the sheet and decides the formula over it: its report in the first mark bytes and vector words, and its depth.
+fn decide_all(
+    sheet: Dimensions,
+    nodes: Nodes,
+    moves: &[u8],
+    labels: &[u8],
+    words: &mut [u64],
+    vectors: &mut [u64],
+    marks: &mut [u8],
+) -> usize
+    requires { ⌜ DecideAll (now moves) (now labels) sheet nodes (now words) (now vectors) (now marks) ⌝ }
+    ensures { λ r. ⌜ Decided (now (moves .entry)) (now (labels .entry)) nodes
+        (now (words .entry)) (now (words .exit)) (now (vectors .entry)) (now (vectors .exit)) (now (marks .entry)) (now (marks .exit)) r ⌝ }
+{
+    let n = sheet.states;
+    let m = sheet.moves;
+    let root = nodes.count - 1;
+    let rows = nodes.count * n;
+    sheet_words::store(moves, labels, sheet, words, vectors);
+    verdict_rows::clear(marks, rows);
+    decide::decide(
+        nodes,
+        root,
+        limits::MOST_LEVELS,
+        &words[..m],
+        vectors,
+        &mut marks[..rows],
+        n,
+        sheet.q,
+    )
+}
+
+// Zeros in the move words, vector words and mark bytes of a job with n states, m move lines and so many nodes.
+fn clear_all(
+    n: usize,
+    m: usize,
+    count: usize,
+    words: &mut [u64],
+    vectors: &mut [u64],
+    marks: &mut [u8],
+)
+    requires { ⌜ ClearAsked n m count (now words) (now vectors) (now marks) ⌝ }
+    ensures { λ _. ⌜ Cleared n m count
+        (now (words .entry)) (now (words .exit)) (now (vectors .entry)) (now (vectors .exit)) (now (marks .entry)) (now (marks .exit)) ⌝ }
+{
+    let length = vectors::length(n);
+    zeros::clear_words(words, m);
+    zeros::clear_words(vectors, length);
+    verdict_rows::clear(marks, count * n);
+}
+
+// Writes the report into the result buffers, leaves zeros in the other lent buffers, and answers the depth.
+pub fn report(
+    sheet: Dimensions,
+    nodes: Nodes,
+    moves: &[u8],
+    labels: &[u8],
+    lower: &mut [u32],
+    upper: &mut [u32],
+    verdicts: &mut [u8],
+    words: &mut [u64],
+    vectors: &mut [u64],
+    marks: &mut [u8],
+) -> u64
+    requires { ⌜ ReportAsked (now moves) (now labels) sheet nodes
+        (buffers (now lower) (now upper) (now verdicts) (now words) (now vectors) (now marks)) ⌝ }
+    ensures { λ r. ⌜ ReportLeft (now (moves .entry)) (now (labels .entry)) nodes
+        (buffers (now (lower .entry)) (now (upper .entry)) (now (verdicts .entry)) (now (words .entry)) (now (vectors .entry)) (now (marks .entry)))
+        (buffers (now (lower .exit)) (now (upper .exit)) (now (verdicts .exit)) (now (words .exit)) (now (vectors .exit)) (now (marks .exit)))
+        r ⌝ }
+{
+    let n = sheet.states;
+    let m = sheet.moves;
+    let count = nodes.count;
+    let depth = decide_all(sheet, nodes, moves, labels, words, vectors, marks);
+    results::write(vectors, marks, n, lower, upper, verdicts);
+    clear_all(n, m, count, words, vectors, marks);
+    depth as u64
+}

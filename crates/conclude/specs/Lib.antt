@@ -1,3 +1,0 @@
--- What the report of a decided formula asks and is.
-pub mod Concluded
-pub mod Shown

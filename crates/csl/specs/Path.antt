@@ -1,0 +1,42 @@
+-- What each path formula means, one line for each kind of path; and its value, point ends and verdicts for given operands. Assumes nothing.
+use Prim.Native.Nat.{ℕ, _<_}
+use mathlib.Core.Bool.{Bool}
+use Rattle.csl.specs.Formula.{PathOf, untilOf, Comparison}
+use Rattle.csl.specs.Chain.{Chain}
+use Rattle.csl.specs.Limit.{Value}
+use Rattle.csl.specs.Verdicts.{Verdict, Reading, least, most, Decided}
+use Rattle.csl.specs.Meaning.{Meaning}
+use Rattle.csl.specs.Until.{untilMeaning}
+
+-- the meaning of a path on a chain
+abbrev pub meaning : {A : Type 0} → Chain → PathOf A → Meaning A
+meaning c (untilOf t a b) = untilMeaning c t a b
+
+-- the probability of a path at a state, where x says where its operands hold
+abbrev pub valueAt : Chain → PathOf (ℕ → Bool) → ℕ → Value
+valueAt c x s = meaning c x .value (λ holds. holds) s
+
+-- "The lower end of `P` is worked out with undecided operand states read as no, the upper end with them read as yes."
+abbrev pub lowValue : Chain → PathOf (ℕ → Verdict) → ℕ → Value
+lowValue c o s = meaning c o .value least s
+
+abbrev pub highValue : Chain → PathOf (ℕ → Verdict) → ℕ → Value
+highValue c o s = meaning c o .value most s
+
+-- the point ends, and the rule of the verdict, where the operands have the verdicts in o
+abbrev pub PointsAt : Chain → PathOf (ℕ → Verdict) → (s lower upper : ℕ) → Type 0
+PointsAt c o s lower upper = meaning c o .Points (λ v. v) s lower upper
+
+abbrev pub FollowsAt : Chain → PathOf (ℕ → Verdict) → Comparison → (p s lower upper : ℕ) → Verdict → Type 0
+FollowsAt c o r p s lower upper v = meaning c o .Follows (λ v. v) r p s lower upper v
+
+-- no state of the chain is undecided; no operand state of a path
+abbrev pub AllDecided : Chain → (ℕ → Verdict) → Type 0
+AllDecided c v = (s : ℕ) → s < c .states → Decided (v s)
+
+abbrev pub DecidedIn : Chain → PathOf (ℕ → Verdict) → Type 0
+DecidedIn c (untilOf t v w) = AllDecided c v × AllDecided c w
+
+-- "A reading takes each operand at each state for yes or no": x is one of operands with the verdicts in o, on n states
+pub data Reads (n : ℕ) : (o : PathOf (ℕ → Verdict)) → (x : PathOf (ℕ → Bool)) → Type 0 where
+  reads-until : (t : ℕ) (v w : ℕ → Verdict) (x y : ℕ → Bool) → Reading n v x → Reading n w y → Reads n (untilOf t v w) (untilOf t x y)

@@ -1,0 +1,46 @@
+-- `read_path` meets its contract. Assumes nothing.
+use Rattle.formula.proofs.KindLaw.{route-laws}
+use borrow.Author.Needs.{needs}
+use Rattle.formula.proofs.lay.read_path.Statement.{statement}
+use Rattle.formula.proofs.lay.read_path.Tie as tie
+
+read-hours-requires : tie.Need-read-hours-requires
+read-hours-requires c κs = search needs
+
+enum-told : tie.Need-enum-told
+enum-told c = search needs
+
+enum-known-hours : tie.Need-enum-known-hours
+enum-known-hours c = search needs
+
+after-two-requires : tie.Need-after-two-requires
+after-two-requires c κs = search needs
+
+second-nodes-requires : tie.Need-second-nodes-requires
+second-nodes-requires c κs = search needs
+
+before-requires : tie.Need-before-requires
+before-requires c κs = search needs
+
+before-requires-2 : tie.Need-before-requires-2
+before-requires-2 c κs = search needs
+
+returns : tie.Need-returns
+returns c = search (needs, route-laws)
+
+returns-2 : tie.Need-returns-2
+returns-2 c = search (needs, route-laws)
+
+pub read-path-spec : {M : Type 1} → statement M
+read-path-spec =
+    tie.close
+    (tie.spec
+    read-hours-requires
+    enum-told
+    enum-known-hours
+    after-two-requires
+    second-nodes-requires
+    before-requires
+    before-requires-2
+    returns
+    returns-2)

@@ -1,0 +1,43 @@
+-- `path_passes` meets its contract. Assumes nothing.
+use borrow.Author.Tests.{le-leb, lt-leb}
+use Rattle.csl.specs.Limits.{mostThreshold}
+use borrow.Author.Needs.{needs}
+use Rattle.formula.proofs.pass.path_passes.Statement.{statement}
+use Rattle.formula.proofs.pass.path_passes.Tie as tie
+
+enum-told : tie.Need-enum-told
+enum-told c = search needs
+
+enum-told-2 : tie.Need-enum-told-2
+enum-told-2 c = search needs
+
+enum-known-test : tie.Need-enum-known-test
+enum-known-test c = search needs
+
+light-requires : tie.Need-light-requires
+light-requires c κs = search needs
+
+returns : tie.Need-returns
+returns c = search needs
+
+returns-2 : tie.Need-returns-2
+returns-2 c = rw (c .before .before .enum-told2 .given .1, le-leb _ mostThreshold (c .before .if1 .taken))
+
+returns-3 : tie.Need-returns-3
+returns-3 c = rw (c .before .enum-told2 .given .1, lt-leb _ mostThreshold (c .if1 .left))
+
+returns-4 : tie.Need-returns-4
+returns-4 c = rw (c .before .before .test .given .1, c .light .ensures)
+
+pub path-passes-spec : {M : Type 1} → statement M
+path-passes-spec =
+    tie.close
+    (tie.spec
+    enum-told
+    enum-told-2
+    enum-known-test
+    light-requires
+    returns
+    returns-2
+    returns-3
+    returns-4)

@@ -1,0 +1,49 @@
+-- The tests that are put to each node. Assumes nothing.
+use Prim.Native.Nat.{ℕ, zero, suc, _*_}
+use mathlib.Core.List.{List}
+use mathlib.Core.Bool.{Bool, true, _&&_}
+use lib.Dec.{leb, ltb}
+use Rattle.csl.specs.Limits.{mostThreshold, mostHours, mostRateHours}
+use Rattle.csl.specs.Formula.{PathOf, timesPass, phasesPass}
+use Rattle.formula.specs.declared.nodes.Kind.{Kind}
+use Rattle.formula.specs.declared.nodes.Kind.the-variants as kind
+use Rattle.formula.specs.declared.nodes.Node.{Node}
+use Rattle.formula.specs.declared.nodes.Nodes.{Nodes}
+use Rattle.formula.specs.Nodes.{kindAt, pathMeant}
+use Rattle.formula.specs.declared.pass.Test.{Test}
+use Rattle.formula.specs.declared.pass.Test.the-variants.{Labels, Limits, Load}
+
+-- a rate times hours within the limit
+abbrev pub lightOf : ℕ → ℕ → Bool
+lightOf q t = leb (q * t) mostRateHours
+
+-- what a label's place, and the threshold and the path formula of a `P`, have to pass
+abbrev pub placePasses : Test → ℕ → Bool
+placePasses (Labels names) i = ltb i names
+placePasses Limits i = true
+placePasses (Load q) i = true
+
+abbrev pub pathPasses : {A : Type 0} → Test → ℕ → PathOf A → Bool
+pathPasses (Labels names) p o = true
+pathPasses Limits p o = leb p mostThreshold && timesPass (λ t. leb t mostHours) o
+pathPasses (Load q) p o = phasesPass (lightOf q) o
+
+abbrev pub passed : Test → Kind → Bool
+passed test kind.Always = true
+passed test (kind.Label i) = placePasses test i
+passed test (kind.Negated a) = true
+passed test (kind.Both a b) = true
+passed test (kind.Chance c p path) = pathPasses test p (pathMeant path)
+
+-- p 0 to p (n - 1) are all true
+unfoldable pub allBelow : (ℕ → Bool) → ℕ → Bool
+allBelow p zero = true
+allBelow p (suc n) = allBelow p n && p n
+
+-- a node of a list passes, by its place
+abbrev pub placePassed : Test → List Node → ℕ → Bool
+placePassed test nodes k = passed test (kindAt nodes k)
+
+-- every node of a formula passes
+abbrev pub allPassed : Test → Nodes → Bool
+allPassed test row = allBelow (placePassed test (row .nodes)) (row .count)

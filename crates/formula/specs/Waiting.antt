@@ -1,0 +1,30 @@
+-- The places that wait for their nodes. Assumes nothing.
+use Prim.Native.Nat.{ℕ, _-_}
+use mathlib.Core.List.{List}
+use lib.ListN.{drop, set, replicate}
+use Rattle.formula.specs.declared.nodes.Kind.{Kind}
+use Rattle.formula.specs.declared.nodes.Kind.the-variants as kind
+use Rattle.formula.specs.declared.waiting.Waiting.{Waiting}
+
+-- twice the most nodes
+abbrev pub waitingRoom : ℕ
+waitingRoom = 128
+
+-- the places, the next first
+abbrev pub waits : Waiting → List ℕ
+waits w = drop (w .from) (w .places)
+
+abbrev pub nothingWaits : Waiting
+nothingWaits = record { places = replicate waitingRoom 0; from = 65 }
+
+-- one place more
+abbrev pub waitFor : ℕ → Waiting → Waiting
+waitFor p w = record { places = set (w .places) (w .from - 1) p; from = w .from - 1 }
+
+-- the places of a node's operands
+abbrev pub waitOver : Kind → Waiting → Waiting
+waitOver kind.Always w = w
+waitOver (kind.Label i) w = w
+waitOver (kind.Negated a) w = waitFor a w
+waitOver (kind.Both a b) w = waitFor a (waitFor b w)
+waitOver (kind.Chance c p path) w = waitFor (path .first) (waitFor (path .second) w)

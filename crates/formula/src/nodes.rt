@@ -1,0 +1,40 @@
+// The nodes of a formula in a row, by value: operands before their node, the outermost node last.
+use verdicts::Comparison;
+
+// A path formula: whole hours, and the places of its two operands. It is a struct as long as there is one kind of path formula, since an
+// enum of one variant is not covered by the borrow checker.
+pub struct Path {
+    pub hours: u64,
+    pub first: usize,
+    pub second: usize,
+}
+
+// A node: a label by its place among the names, operands by their places in the row.
+pub enum Kind {
+    Always,
+    Label(usize),
+    Negated(usize),
+    Both(usize, usize),
+    Chance {
+        comparison: Comparison,
+        threshold: u64,
+        path: Path,
+    },
+}
+
+// A node of a formula.
+pub struct Node {
+    pub kind: Kind,
+}
+
+// The nodes of a formula in a row; the first `count` are its own.
+pub struct Nodes {
+    pub nodes: [Node; 64],
+    pub count: usize,
+}
+
+// No nodes.
+pub const EMPTY: Nodes = Nodes {
+    nodes: [Node { kind: Kind::Always }; 64],
+    count: 0,
+};

@@ -1,0 +1,86 @@
+// Tests that are put to each node of a formula.
+use crate::nodes::Kind;
+use crate::nodes::Nodes;
+use crate::nodes::Path;
+use limits::MOST_HOURS;
+use limits::MOST_RATE_HOURS;
+use limits::MOST_THRESHOLD;
+ghost use mathlib.Core.Path.{_≡_};
+ghost use Prim.Native.Nat.{_≤_};
+ghost use Rattle.formula.specs.Nodes.{pathMeant};
+ghost use Rattle.formula.specs.Pass.{lightOf, placePasses, pathPasses, passed, allPassed};
+
+// What is asked of every node: a label's place below a number of names; thresholds and hours within their limits; a rate times the hours
+// within its limit.
+pub enum Test {
+    Labels(usize),
+    Limits,
+    Load(u64),
+}
+
+// The rate times the hours is within its limit.
+fn light(rate: u64, hours: u64) -> bool
+    ensures { λ r. ⌜ r ≡ lightOf rate hours ⌝ }
+{
+    if rate == 0 {
+        return true;
+    }
+    hours <= MOST_RATE_HOURS / rate
+}
+
+// Whether a label's place passes a test.
+fn place_passes(test: Test, place: usize) -> bool
+    ensures { λ r. ⌜ r ≡ placePasses test place ⌝ }
+{
+    match test {
+        Test::Labels(names) => place < names,
+        Test::Limits => true,
+        Test::Load(_) => true,
+    }
+}
+
+// Whether the threshold and the path formula of a `P` pass a test.
+fn path_passes(test: Test, threshold: u64, path: Path) -> bool
+    ensures { λ r. ⌜ r ≡ pathPasses test threshold (pathMeant path) ⌝ }
+{
+    match test {
+        Test::Labels(_) => true,
+        Test::Limits => threshold <= MOST_THRESHOLD && path.hours <= MOST_HOURS,
+        Test::Load(rate) => light(rate, path.hours),
+    }
+}
+
+// Whether a node passes a test.
+fn passes(test: Test, kind: Kind) -> bool
+    ensures { λ r. ⌜ r ≡ passed test kind ⌝ }
+{
+    match kind {
+        Kind::Always => true,
+        Kind::Negated(_) => true,
+        Kind::Both(_, _) => true,
+        Kind::Label(place) => place_passes(test, place),
+        Kind::Chance {
+            comparison: _,
+            threshold,
+            path,
+        } => path_passes(test, threshold, path),
+    }
+}
+
+// Whether every node of a formula passes a test.
+pub fn all_pass(nodes: Nodes, test: Test) -> bool
+    requires { ⌜ nodes .count ≤ 64 ⌝ }
+    ensures { λ r. ⌜ r ≡ allPassed test nodes ⌝ }
+{
+    let n = nodes.count;
+    let mut i: usize = 0;
+    while i < n {
+        let x = nodes.nodes[i];
+        let kind = x.kind;
+        if !passes(test, kind) {
+            return false;
+        }
+        i += 1;
+    }
+    true
+}

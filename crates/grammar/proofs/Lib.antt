@@ -1,0 +1,6 @@
+-- Laws behind the proofs of `grammar`.
+pub mod WordLaw
+pub mod HeadLaw
+pub mod SignLaw
+pub mod AmountLaw
+pub mod BoundLaw

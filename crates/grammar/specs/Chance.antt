@@ -1,0 +1,42 @@
+-- What the code's comparisons, numbers and bounds stand for, and how csl's reader goes on behind them. Assumes nothing.
+use Prim.Native.Nat.{ℕ}
+use mathlib.Core.Bool.{cond}
+use mathlib.Core.Path.{_≡_}
+use mathlib.Core.List.{List, tail}
+use mathlib.Core.Option.{Option, none, some}
+use Rattle.csl.specs.Text.{Text, bytes}
+use Rattle.csl.specs.Limits.{formulaDigits}
+use Rattle.csl.specs.Number.{isNumber, valueOf}
+use Rattle.csl.specs.Formula as formula
+use Rattle.csl.specs.Grammar.{Found, nothing, onComparison, onNumber, onWord}
+use Rattle.verdicts.specs.Paper.{comparisonOf}
+use Rattle.grammar.specs.declared.chance.Sign.{Sign}
+use Rattle.grammar.specs.declared.chance.Sign.the-variants as sign
+use Rattle.grammar.specs.declared.chance.Amount.{Amount}
+use Rattle.grammar.specs.declared.chance.Amount.the-variants as amount
+use Rattle.grammar.specs.declared.chance.Bound.{Bound}
+use Rattle.grammar.specs.declared.chance.Bound.the-variants as bound
+
+abbrev pub signMeant : Sign → Option formula.Comparison
+signMeant (sign.Is c) = some (comparisonOf c)
+signMeant sign.Missing = none
+
+-- the number that a token of the formula spells
+unfoldable pub amountOf : Text → Amount
+amountOf w = cond (isNumber formulaDigits w) (amount.Is (valueOf w)) amount.Missing
+
+-- what comes behind a bound, or behind hours, that were read: nothing where they are missing
+abbrev pub boundThen : Bound → (formula.Comparison → ℕ → List Text → Found) → List Text → Found
+boundThen (bound.Is c p) next ts = next (comparisonOf c) p ts
+boundThen bound.Missing next ts = nothing
+
+abbrev pub hoursThen : Amount → (ℕ → List Text → Found) → List Text → Found
+hoursThen (amount.Is t) next ts = next t ts
+hoursThen amount.Missing next ts = nothing
+
+-- what was read of the first two tokens: csl's reader goes on behind a comparison and a threshold, or behind `U` and the hours, or stops there
+abbrev pub BoundRead : List Text → Bound → Type 0
+BoundRead ts b = (next : formula.Comparison → ℕ → List Text → Found) → onComparison ts (λ c more. onNumber more (next c)) ≡ boundThen b next (tail (tail ts))
+
+abbrev pub HoursRead : List Text → Amount → Type 0
+HoursRead ts h = (next : ℕ → List Text → Found) → onWord (bytes "U") ts (λ more. onNumber more next) ≡ hoursThen h next (tail (tail ts))

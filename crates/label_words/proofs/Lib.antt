@@ -1,3 +1,0 @@
--- Laws behind the proofs of `label_words`.
-pub mod WordLaw
-pub mod StoreLaw

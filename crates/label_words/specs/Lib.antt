@@ -1,3 +1,0 @@
--- Marks as words.
-pub mod Left
-pub mod Words

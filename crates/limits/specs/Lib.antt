@@ -1,0 +1,2 @@
+-- The constants of the code and the numbers of the definition.
+pub mod Tied

@@ -1,0 +1,102 @@
+// The limits, units and sizes of document 01 as constants of the code. `all` holds all of them, and its promise says that each is the
+// number that crates/csl has under the same name.
+ghost use Rattle.limits.specs.Tied.{Tied};
+
+// Ends and thresholds count billionths.
+pub const BILLION: u64 = 1000000000;
+
+// The most digits of a number in the formula, and in the two texts of the sheet.
+pub const FORMULA_DIGITS: usize = 10;
+
+pub const SHEET_DIGITS: usize = 9;
+
+// The most names of labels, and letters of a name.
+pub const MOST_NAMES: usize = 16;
+
+pub const MOST_LETTERS: usize = 12;
+
+// The most states and moves.
+pub const MOST_STATES: usize = 512;
+
+pub const MOST_MOVES: usize = 4096;
+
+// The most that the rates out of one state add up to.
+pub const MOST_RATE: u64 = 64000000;
+
+// The most bytes of the formula, and of each text of the sheet.
+pub const FORMULA_BYTES: usize = 512;
+
+pub const SHEET_BYTES: usize = 61440;
+
+// The most nodes of a formula, and levels of them.
+pub const MOST_NODES: usize = 64;
+
+pub const MOST_LEVELS: usize = 16;
+
+// The most that an until names as its threshold and its hours, and the most of q times its hours.
+pub const MOST_THRESHOLD: u64 = 1000000000;
+
+pub const MOST_HOURS: u64 = 8760;
+
+pub const MOST_RATE_HOURS: u64 = 64000000;
+
+// Rates count moves in so many hours.
+pub const RATE_HOURS: u64 = 1000000;
+
+// The steps of a depth beyond twice the load.
+pub const SPARE_STEPS: u64 = 40;
+
+// The lent vector words: so many for each state, and so many besides.
+pub const VECTOR_PLACES: usize = 10;
+
+pub const VECTOR_SPARE: usize = 512;
+
+// All constants, each under one word.
+struct Limits {
+    billion: u64,
+    numbers: usize,
+    fields: usize,
+    names: usize,
+    letters: usize,
+    states: usize,
+    moves: usize,
+    rate: u64,
+    formula: usize,
+    sheet: usize,
+    nodes: usize,
+    levels: usize,
+    threshold: u64,
+    hours: u64,
+    load: u64,
+    unit: u64,
+    spare: u64,
+    places: usize,
+    besides: usize,
+}
+
+// The constants are the definition's numbers. Nothing calls this: it is here to be proved.
+fn all() -> Limits
+    ensures { λ r. ⌜ Tied r ⌝ }
+{
+    Limits {
+        billion: BILLION,
+        numbers: FORMULA_DIGITS,
+        fields: SHEET_DIGITS,
+        names: MOST_NAMES,
+        letters: MOST_LETTERS,
+        states: MOST_STATES,
+        moves: MOST_MOVES,
+        rate: MOST_RATE,
+        formula: FORMULA_BYTES,
+        sheet: SHEET_BYTES,
+        nodes: MOST_NODES,
+        levels: MOST_LEVELS,
+        threshold: MOST_THRESHOLD,
+        hours: MOST_HOURS,
+        load: MOST_RATE_HOURS,
+        unit: RATE_HOURS,
+        spare: SPARE_STEPS,
+        places: VECTOR_PLACES,
+        besides: VECTOR_SPARE,
+    }
+}

@@ -1,3 +1,0 @@
--- Laws that the proofs of the functions lean on.
-mod Filling
-mod Zeros

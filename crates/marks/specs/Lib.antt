@@ -1,4 +1,0 @@
--- Rows of verdict bytes.
-pub mod Byte
-pub mod Row
-pub mod Shown

@@ -1,2 +1,0 @@
--- Laws behind the proofs of `names`.
-pub mod NamesLaw

@@ -1,2 +1,0 @@
--- The names of a first line.
-pub mod Names

@@ -1,2 +1,0 @@
--- Moves as words.
-pub mod Packed

@@ -1,0 +1,73 @@
+-- What holds of a list of moves, place by place: sums, states in range, sources that rise. Assumes nothing.
+use mathlib.Core.Path.{_≡_, refl, ap, sym, _∙_}
+use mathlib.Core.Bool.{Bool, true, false, cond, _&&_, _||_, false≢true, and-eq-true-iff}
+use mathlib.Core.List.{List, [], _∷_}
+use Prim.Native.Nat.{ℕ, zero, suc, _+_, _≤_, _<_}
+use native.Mathlib.Omega.{arith}
+use lib.ListN.{length, getD}
+use lib.Dec.{ltb, eqb}
+use borrow.Author.Tests.{ltb-true, eqb-true}
+use Rattle.csl.specs.Moves.{Move, isBefore, isRising, rateIn, ratesOut}
+use Rattle.csl.specs.Chain.{sumTo}
+use Rattle.accepted.specs.Rates.{Within}
+
+abbrev pub noMove : Move
+noMove = record { from = 0; to = 0; rate = 0 }
+
+-- the move at a place
+abbrev pub moveAt : List Move → ℕ → Move
+moveAt ms j = getD ms j noMove
+
+-- a sum from the first term on
+sum-first : (f : ℕ → ℕ) (n : ℕ) → sumTo f (suc n) ≡ f 0 + sumTo (λ k. f (suc k)) n
+unfolding sumTo
+sum-first f zero = omega arith
+sum-first f (suc n) = omega (arith, sum-first f n)
+
+pub rate-by-place : (ms : List Move) (s g : ℕ)
+    → rateIn ms s g ≡ sumTo (λ j. cond (eqb (moveAt ms j .from) s && eqb (moveAt ms j .to) g) (moveAt ms j .rate) 0) (length ms)
+unfolding rateIn sumTo
+rate-by-place [] s g = refl
+rate-by-place (m ∷ ms) s g =
+    ap (λ (x : ℕ). cond (eqb (m .from) s && eqb (m .to) g) (m .rate) 0 + x) (rate-by-place ms s g) ∙ sym (sum-first _ (length ms))
+
+pub out-by-place : (ms : List Move) (s : ℕ)
+    → ratesOut ms s ≡ sumTo (λ j. cond (eqb (moveAt ms j .from) s) (moveAt ms j .rate) 0) (length ms)
+unfolding ratesOut sumTo
+out-by-place [] s = refl
+out-by-place (m ∷ ms) s =
+    ap (λ (x : ℕ). cond (eqb (m .from) s) (m .rate) 0 + x) (out-by-place ms s) ∙ sym (sum-first _ (length ms))
+
+pub within-place : (n : ℕ) (ms : List Move) → Within n ms → (j : ℕ) → j < length ms → (moveAt ms j .from < n) × (moveAt ms j .to < n)
+unfolding Within
+within-place n [] w j l = absurd (omega arith)
+within-place n (m ∷ ms) w zero l = (w .0, w .1)
+within-place n (m ∷ ms) w (suc j) l = within-place n ms (w .2) j (omega arith)
+
+-- rising moves leave states that do not fall
+before-le : (a b : Move) → isBefore a b ≡ true → a .from ≤ b .from
+before-le a b h = go (ltb (a .from) (b .from)) (eqb (a .from) (b .from)) refl refl h
+  where
+    go : (x y : Bool) → ltb (a .from) (b .from) ≡ x → eqb (a .from) (b .from) ≡ y → (x || y && ltb (a .to) (b .to)) ≡ true → a .from ≤ b .from
+    go true y e f k = omega (arith, ltb-true (a .from) (b .from) e)
+    go false true e f k = omega (arith, eqb-true (a .from) (b .from) f)
+    go false false e f k = absurd (false≢true k)
+
+rising-first : (m : Move) (ms : List Move) → isRising (m ∷ ms) ≡ true → (j : ℕ) → j < length ms → m .from ≤ moveAt ms j .from
+unfolding isRising
+rising-first m [] h j l = absurd (omega arith)
+rising-first m (a ∷ ms) h zero l = before-le m a (and-eq-true-iff (isBefore m a) (isRising (a ∷ ms)) .0 h .0)
+rising-first m (a ∷ ms) h (suc j) l =
+    let p = and-eq-true-iff (isBefore m a) (isRising (a ∷ ms)) .0 h in omega (arith, before-le m a (p .0), rising-first a ms (p .1) j (omega arith))
+
+rising-rest : (m : Move) (ms : List Move) → isRising (m ∷ ms) ≡ true → isRising ms ≡ true
+unfolding isRising
+rising-rest m [] h = refl
+rising-rest m (a ∷ ms) h = and-eq-true-iff (isBefore m a) (isRising (a ∷ ms)) .0 h .1
+
+pub rising-places : (ms : List Move) → isRising ms ≡ true → (i j : ℕ) → i ≤ j → j < length ms → moveAt ms i .from ≤ moveAt ms j .from
+rising-places [] h i j k l = absurd (omega arith)
+rising-places (m ∷ ms) h zero zero k l = omega arith
+rising-places (m ∷ ms) h zero (suc j) k l = rising-first m ms h j (omega arith)
+rising-places (m ∷ ms) h (suc i) zero k l = absurd (omega arith)
+rising-places (m ∷ ms) h (suc i) (suc j) k l = rising-places ms (rising-rest m ms h) i j (omega arith) (omega arith)

@@ -1,0 +1,9 @@
+-- Moves as words, what words say of a chain, and what the words that a sheet's moves are stored in say of its chain.
+pub mod Packed
+pub mod Words
+pub mod Lines
+pub mod Sorted
+pub mod Asked
+pub mod Shown
+pub mod ByPlace
+pub mod Stored

@@ -1,0 +1,79 @@
+-- Words that hold the moves of a sheet, one for each line in its order: they show the sheet's chain, and are what the engine asks of words.
+-- Assumes nothing.
+use mathlib.Core.Path.{_≡_, refl, sym, _∙_}
+use mathlib.Core.Bool.{Bool, true, false, cond, _&&_}
+use mathlib.Core.List.{List}
+use Prim.Native.Nat.{ℕ, _≤_, _<_}
+use native.Mathlib.Omega.{arith}
+use lib.ListN.{length}
+use lib.Dec.{eqb}
+use Rattle.csl.specs.Limits.{mostStates, mostMoves, mostRate}
+use Rattle.csl.specs.Moves.{Move, isRising, rateIn, ratesOut}
+use Rattle.csl.specs.Sheet.{Sheet}
+use Rattle.csl.specs.Chain.{chainOf}
+use Rattle.csl.specs.Laws.Sum.{sum-cong}
+use Rattle.accepted.specs.Rates.{Within, away-by-lines}
+use Rattle.accepted.specs.Sheet.{Sound}
+use Rattle.rate_matrix.specs.Packed.{packedMove, to-packed, from-packed, rate-packed}
+use Rattle.rate_matrix.specs.Words.{at, fromOf, toOf, rateOf, rateBetween, exitOf, Lines}
+use Rattle.rate_matrix.specs.Shown.{Shows}
+use Rattle.rate_matrix.specs.ByPlace.{moveAt, rate-by-place, out-by-place, within-place, rising-places}
+
+-- the first words of mv are the moves ms
+abbrev pub Holds : List ℕ → List Move → Type 0
+Holds mv ms = (j : ℕ) → j < length ms → at mv j ≡ packedMove (moveAt ms j)
+
+module _ (mv : List ℕ) (ms : List Move) (n : ℕ) (small : n ≤ mostStates) (within : Within n ms) (holds : Holds mv ms) where
+  from-is : (j : ℕ) → j < length ms → fromOf mv j ≡ moveAt ms j .from
+  from-is j l =
+      let w = within-place n ms within j l in
+      rw (holds j l) (from-packed (moveAt ms j .from) (moveAt ms j .to) (moveAt ms j .rate) (omega arith) (omega arith))
+
+  to-is : (j : ℕ) → j < length ms → toOf mv j ≡ moveAt ms j .to
+  to-is j l =
+      let w = within-place n ms within j l in
+      rw (holds j l) (to-packed (moveAt ms j .from) (moveAt ms j .to) (moveAt ms j .rate) (omega arith) (omega arith))
+
+  rate-is : (j : ℕ) → j < length ms → rateOf mv j ≡ moveAt ms j .rate
+  rate-is j l =
+      let w = within-place n ms within j l in
+      rw (holds j l) (rate-packed (moveAt ms j .from) (moveAt ms j .to) (moveAt ms j .rate) (omega arith) (omega arith))
+
+  pair-cond : (x y : Bool) (r : ℕ) → cond x (cond y r 0) 0 ≡ cond (x && y) r 0
+  pair-cond true y r = refl
+  pair-cond false y r = refl
+
+  rates-stored : (s g : ℕ) → rateIn ms s g ≡ rateBetween mv (length ms) s g
+  unfolding rateBetween
+  rates-stored s g =
+      rate-by-place ms s g
+      ∙ sum-cong _ _ (length ms) λ j l. rw (from-is j l, to-is j l, rate-is j l) (sym (pair-cond (eqb (moveAt ms j .from) s) (eqb (moveAt ms j .to) g) (moveAt ms j .rate)))
+
+  out-stored : (s : ℕ) → ratesOut ms s ≡ exitOf mv (length ms) s
+  unfolding exitOf
+  out-stored s = out-by-place ms s ∙ sum-cong _ _ (length ms) λ j l. rw (from-is j l, rate-is j l) refl
+
+  lines-stored : length ms ≤ mostMoves → isRising ms ≡ true → ((s : ℕ) → ratesOut ms s ≤ mostRate) → Lines mv (length ms) n
+  lines-stored few rising limit =
+      record {
+        states = small;
+        few = omega arith;
+        sources = λ j l. rw (from-is j l) (within-place n ms within j l .0);
+        targets = λ j l. rw (to-is j l) (within-place n ms within j l .1);
+        rising = λ i j k l. rw (from-is i (omega arith), from-is j l) (rising-places ms rising i j k l);
+        limit = λ s l. omega (arith, limit s, out-stored s);
+      }
+
+-- words that hold the moves of a sound sheet show its chain, in lines
+module _ (mv : List ℕ) (sheet : Sheet) (k : Sound sheet) (holds : Holds mv (sheet .moves)) where
+  pub shows-stored : Shows (chainOf sheet) mv (length (sheet .moves)) (sheet .states)
+  unfolding chainOf
+  shows-stored =
+      record {
+        states = refl;
+        targets = λ j l. rw (to-is mv (sheet .moves) _ (k .few-states) (k .within) holds j l) (within-place _ (sheet .moves) (k .within) j l .1);
+        rates = λ s g h l. away-by-lines sheet (k .within) (k .apart) s g ∙ rates-stored mv (sheet .moves) _ (k .few-states) (k .within) holds s g;
+      }
+
+  pub sheet-lines : Lines mv (length (sheet .moves)) (sheet .states)
+  sheet-lines = lines-stored mv (sheet .moves) _ (k .few-states) (k .within) holds (k .few-moves) (k .rising) (k .slow)

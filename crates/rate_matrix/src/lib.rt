@@ -1,0 +1,9 @@
+// The rate matrix of a sheet by rows: each move in one word of 64 bits, the words in the order of the states that they leave, and with them
+// the exit rate of each state and where its row of words ends.
+mod rows;
+mod word;
+
+pub use rows::prepare;
+pub use word::pack;
+pub use word::rate_of;
+pub use word::to_of;

@@ -1,3 +1,0 @@
--- Laws behind the proofs of `sheet`.
-pub mod JudgeLaw
-pub mod CheckLaw

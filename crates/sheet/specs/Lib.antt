@@ -1,2 +1,0 @@
--- Conditions 1 to 9.
-pub mod Checked

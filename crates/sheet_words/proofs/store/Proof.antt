@@ -1,0 +1,42 @@
+-- `store` meets its contract. Assumes nothing.
+use Rattle.sheet_words.proofs.StoreLaw.{store-asked, first-words, words-counted, prepare-asked, marks-asked, stored}
+use borrow.Author.Needs.{needs}
+use Rattle.sheet_words.proofs.store.Statement.{statement}
+use Rattle.sheet_words.proofs.store.Tie as tie
+
+store-requires : tie.Need-store-requires
+store-requires c κs = search (needs, store-asked)
+
+slice-reshare-prefix-prepare : tie.Need-slice-reshare-prefix-prepare
+slice-reshare-prefix-prepare c = search (needs, first-words)
+
+slice-aggregate-prepare : tie.Need-slice-aggregate-prepare
+slice-aggregate-prepare c = search (needs, words-counted)
+
+prepare-requires : tie.Need-prepare-requires
+prepare-requires c κs = search (needs, prepare-asked)
+
+store-marks-requires : tie.Need-store-marks-requires
+store-marks-requires c κs = search (needs, marks-asked)
+
+same-length : tie.Need-same-length
+same-length c = search needs
+
+same-length-2 : tie.Need-same-length-2
+same-length-2 c = search needs
+
+returns : tie.Need-returns
+returns c = search (needs, stored)
+
+pub store-spec : {M : Type 1} → statement M
+store-spec =
+    tie.close
+    (tie.spec
+    store-requires
+    slice-reshare-prefix-prepare
+    slice-aggregate-prepare
+    prepare-requires
+    store-marks-requires
+    same-length
+    same-length-2
+    returns)

@@ -1,0 +1,47 @@
+-- What storing a sheet asks, and what the words hold then. Assumes nothing.
+use mathlib.Core.Path.{_≡_}
+use mathlib.Core.Bool.{true}
+use mathlib.Core.List.{List}
+use Prim.Native.Nat.{ℕ, _+_, _≤_, _<_}
+use lib.ListN.{length, take}
+use Rattle.csl.specs.Text.{Text}
+use Rattle.csl.specs.Limits.{mostNames, mostStates}
+use Rattle.csl.specs.Labels.{labelsLayout, namesOf, statesOf}
+use Rattle.csl.specs.Moves.{movesOf}
+use Rattle.csl.specs.Sheet.{sheetOf}
+use Rattle.csl.specs.Chain.{chainOf, topRate}
+use Rattle.accepted.specs.Sheet.{SheetPassed}
+use Rattle.numbers.specs.Filled.{at, Table}
+use Rattle.moves.specs.Words.{moveWord}
+use Rattle.labels.specs.Words.{stateWord}
+use Rattle.vectors.specs.Places.{valuesFrom, marksFrom, vectorLength}
+use Rattle.vectors.specs.Prepared.{Prepared}
+use Rattle.refusals.specs.Sheet.{dimensionsOf}
+use Rattle.refusals.specs.declared.sheet_tests.Dimensions.{Dimensions}
+
+-- labels whose marks are to be stored, and room for them
+pub record MarksAsked (labels : Text) (names : ℕ) (l : List ℕ) (n : ℕ) : Type 0 where
+  pub layout : labelsLayout labels ≡ true
+  pub count : names ≡ length (namesOf labels)
+  pub few : names ≤ mostNames
+  pub states : n ≡ statesOf labels
+  pub small : n ≤ mostStates
+  pub long : vectorLength n ≤ length l
+
+-- a sheet that passed its tests is to be stored in words that have room for it
+pub record StoreAsked (moves labels : Text) (d : Dimensions) (words vectors : List ℕ) : Type 0 where
+  pub passed : SheetPassed moves labels
+  pub is : d ≡ dimensionsOf moves labels
+  pub room : length (movesOf moves) ≤ length words
+  pub long : vectorLength (statesOf labels) ≤ length vectors
+
+-- The first move words are the sheet's moves. The vector words are prepared for them at the sheet's uniformisation rate, with 0 in the
+-- places of the ends too, and with the marks of the labels in their place. All other words are as they were.
+pub record Stored (moves labels : Text) (words₀ words vectors₀ vectors : List ℕ) : Type 0 where
+  pub lines : Table (moveWord moves) words₀ words (length (movesOf moves))
+  pub taken : length (take (length (movesOf moves)) words) ≡ length (movesOf moves)
+  pub prepared : Prepared (take (length (movesOf moves)) words) vectors (statesOf labels) (topRate (chainOf (sheetOf moves labels)))
+  pub ends : (k : ℕ) → k < valuesFrom (statesOf labels) → at vectors k ≡ 0
+  pub marks : (s : ℕ) → s < statesOf labels → at vectors (marksFrom (statesOf labels) + s) ≡ stateWord labels s
+  pub same : length vectors ≡ length vectors₀
+  pub beyond : (k : ℕ) → vectorLength (statesOf labels) ≤ k → at vectors k ≡ at vectors₀ k

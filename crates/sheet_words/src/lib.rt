@@ -1,0 +1,28 @@
+// A sheet that passed its tests, in the lent words: its moves in the move words; in the vector words the marks of its labels and what is
+// prepared of its moves.
+use refusals::Dimensions;
+ghost use Rattle.labels.specs.Words.{stateWord};
+ghost use Rattle.numbers.specs.Filled.{Filled};
+ghost use Rattle.vectors.specs.Places.{marksFrom};
+ghost use Rattle.sheet_words.specs.Stored.{MarksAsked, StoreAsked, Stored};
+
+// The marks of the labels at every state, in their place among the vector words.
+fn store_marks(labels: &[u8], names: usize, vectors: &mut [u64], n: usize)
+    requires { ⌜ MarksAsked (now labels) names (now vectors) n ⌝ }
+    ensures { λ _. ⌜ Filled (stateWord (now (labels .entry))) (marksFrom n) n (now (vectors .entry)) (now (vectors .exit)) ⌝ }
+{
+    let from = vectors::marks(n);
+    labels::store(labels, names, &mut vectors[from..]);
+}
+
+// A sheet's two texts into the lent words.
+pub fn store(moves: &[u8], labels: &[u8], sheet: Dimensions, words: &mut [u64], vectors: &mut [u64])
+    requires { ⌜ StoreAsked (now moves) (now labels) sheet (now words) (now vectors) ⌝ }
+    ensures { λ _. ⌜ Stored (now (moves .entry)) (now (labels .entry)) (now (words .entry)) (now (words .exit)) (now (vectors .entry)) (now (vectors .exit)) ⌝ }
+{
+    let n = sheet.states;
+    let m = sheet.moves;
+    moves::store(moves, words);
+    vectors::prepare(&words[..m], vectors, n);
+    store_marks(labels, sheet.names, vectors, n);
+}

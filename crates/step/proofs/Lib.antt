@@ -1,4 +1,0 @@
--- Laws behind the proofs of `step`.
-pub mod RowLaw
-pub mod StateLaw
-pub mod StepLaw

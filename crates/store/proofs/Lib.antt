@@ -1,2 +1,0 @@
--- Laws behind the proofs of `store`.
-pub mod PassLaw

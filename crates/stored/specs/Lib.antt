@@ -1,3 +1,0 @@
--- What the words that a sheet's moves are stored in say of its chain.
-pub mod ByPlace
-pub mod Stored

@@ -1,2 +1,0 @@
--- What the functions of the sums ask and promise.
-pub mod Asked

@@ -1,0 +1,63 @@
+-- `both_ends` meets its contract. Assumes nothing.
+use borrow.Author.Needs.{needs}
+use Rattle.until.proofs.BothLaw.{both-laws, may-high, may-upper, may-point}
+use Rattle.until.proofs.both_ends.Statement.{statement}
+use Rattle.until.proofs.both_ends.Tie as tie
+
+-- from the place after a call back to the place after the call before it, or to the function's entry
+abbrev before-read : tie.After-read-low → tie.Start
+before-read c = c .before .before .before .before .before .before
+
+abbrev before-lower : tie.After-lower-ends → tie.After-read-low
+before-lower c = c .before .before .before .before
+
+abbrev before-high : tie.After-read-high → tie.After-lower-ends
+before-high c = c .before .before .before .before
+
+abbrev before-upper : tie.After-upper-ends → tie.After-read-high
+before-upper c = c .before .before .before .before
+
+read-low-requires : tie.Need-read-low-requires
+read-low-requires c κs = search (needs, both-laws)
+
+lower-ends-requires : tie.Need-lower-ends-requires
+lower-ends-requires c κs = search (needs, both-laws)
+
+read-high-requires : tie.Need-read-high-requires
+read-high-requires c κs =
+    let lowered = c .before .before .before in
+    let read = before-lower lowered in
+    may-high (before-read read .pre) (read .read-low .ensures) (lowered .lower-ends .ensures)
+
+upper-ends-requires : tie.Need-upper-ends-requires
+upper-ends-requires c κs =
+    let high = c .before .before .before in
+    let lowered = before-high high in
+    let read = before-lower lowered in
+    may-upper (before-read read .pre) (read .read-low .ensures) (lowered .lower-ends .ensures) (high .read-high .ensures)
+
+point-requires : tie.Need-point-requires
+point-requires c κs =
+    let upper = c .before .before .before in
+    let high = before-upper upper in
+    let lowered = before-high high in
+    let read = before-lower lowered in
+    may-point (before-read read .pre) (read .read-low .ensures) (lowered .lower-ends .ensures) (high .read-high .ensures) (upper .upper-ends .ensures)
+
+same-length : tie.Need-same-length
+same-length c = search (needs, both-laws)
+
+returns : tie.Need-returns
+returns c = search (needs, both-laws)
+
+pub both-ends-spec : {M : Type 1} → statement M
+both-ends-spec =
+    tie.close
+    (tie.spec
+    read-low-requires
+    lower-ends-requires
+    read-high-requires
+    upper-ends-requires
+    point-requires
+    same-length
+    returns)

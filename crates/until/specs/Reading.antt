@@ -1,0 +1,47 @@
+-- A reading of two rows of verdict bytes, undecided read as yes or as no: the until that it makes, and its step values. Assumes nothing.
+use mathlib.Core.Path.{refl}
+use mathlib.Core.Bool.{Bool, true, false}
+use mathlib.Core.List.{List}
+use Prim.Native.Nat.{ℕ}
+use Rattle.csl.specs.Chain.{Chain}
+use Rattle.csl.specs.Phase.{Phase}
+use Rattle.csl.specs.Until.{untilPhase}
+use Rattle.csl.specs.Verdicts.{Verdict, asNo, asYes}
+use Rattle.bounds.specs.StepValues.{verdictAt, Rounds}
+use Rattle.rate_matrix.specs.Words.{at, topOf}
+use Rattle.rate_matrix.specs.Shown.{Shows}
+use Rattle.phase.specs.Value.{runOf, startOf, valueOf}
+use Rattle.phase.specs.Rounded.{StartsHeld, run-next}
+
+-- the verdicts of a row of bytes
+abbrev pub verdicts : List ℕ → ℕ → Verdict
+verdicts row s = verdictAt (at row s)
+
+-- a verdict read with undecided as yes, or as no
+abbrev pub readAs : Bool → Verdict → Bool
+readAs true v = asYes v
+readAs false v = asNo v
+
+-- until with undecided operand states read so; with them read as no, and as yes
+abbrev pub readPhase : Bool → List ℕ → List ℕ → Phase
+readPhase b first second = untilPhase (λ s. readAs b (verdicts first s)) (λ s. readAs b (verdicts second s))
+
+abbrev pub lowPhase : List ℕ → List ℕ → Phase
+lowPhase first second = readPhase false first second
+
+abbrev pub highPhase : List ℕ → List ℕ → Phase
+highPhase first second = readPhase true first second
+
+-- until starts as it holds
+until-held : (n : ℕ) (a b : ℕ → Bool) → StartsHeld n (untilPhase a b) (startOf (untilPhase a b))
+until-held n a b = record { ones = λ s l e. rw e refl; nils = λ s l e f. rw e refl }
+
+-- so its values are exact at step 0, whichever way undecided operand states are read
+pub reading-rounds : {c : Chain} {mv : List ℕ} {m n : ℕ} (b : Bool) (first second : List ℕ) → Shows c mv m n
+    → Rounds c (readPhase b first second) (valueOf mv m (topOf mv m n) (readPhase b first second))
+unfolding runOf
+reading-rounds {n = n} b first second p =
+    record {
+      start = λ s l. refl;
+      next = run-next p (λ s l. refl) (until-held n (λ s. readAs b (verdicts first s)) (λ s. readAs b (verdicts second s)));
+    }

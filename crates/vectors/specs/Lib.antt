@@ -1,0 +1,3 @@
+-- The layout of the lent vector words.
+pub mod Places
+pub mod Prepared

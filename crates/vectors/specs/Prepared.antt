@@ -1,0 +1,96 @@
+-- What "prepared" means of the lent vector words, and how they come to be so. Assumes nothing.
+use mathlib.Core.Path.{_≡_, _∙_}
+use mathlib.Core.List.{List}
+use Prim.Native.Nat.{ℕ, zero, suc, _≤_, _<_, max}
+use native.Mathlib.Omega.{arith}
+use lib.ListN.{length}
+use Rattle.csl.specs.Limits.{mostStates, mostRate}
+use Rattle.csl.specs.Chain.{greatest}
+use Rattle.csl.specs.Laws.Sum.{greatest-le}
+use Rattle.rate_matrix.specs.Words.{at, exitOf, topOf, rowOf, Lines}
+use Rattle.vectors.specs.Places.{valuesFrom, exitsFrom, weightsFrom, marksFrom, vectorLength, exitAt, endAt}
+
+-- The exit rates and the row ends of the move words mv stand in their places, for n states, and q is the greatest exit rate.
+pub record Rates (mv l : List ℕ) (n q : ℕ) : Type 0 where
+  pub lines : Lines mv (length mv) n
+  pub long : vectorLength n ≤ length l
+  pub exits : (s : ℕ) → s < n → exitAt l n s ≡ exitOf mv (length mv) s
+  pub ends : (s : ℕ) → s < n → endAt l n s ≡ rowOf mv (length mv) (suc s)
+  pub top : q ≡ topOf mv (length mv) n
+
+-- The words that are worked in hold 0.
+pub record Clear (l : List ℕ) (n : ℕ) : Type 0 where
+  pub columns : (k : ℕ) → valuesFrom n ≤ k → k < exitsFrom n → at l k ≡ 0
+  pub weights : (k : ℕ) → weightsFrom n ≤ k → k < marksFrom n → at l k ≡ 0
+
+-- Prepared is both.
+pub record Prepared (mv l : List ℕ) (n q : ℕ) : Type 0 where
+  pub rates : Rates mv l n q
+  pub clear : Clear l n
+
+-- words as they were from the exit rates to the row ends keep them; as they were from the values to the marks, they stay prepared
+pub rates-kept : {mv l l' : List ℕ} {n q : ℕ} → Rates mv l n q → length l' ≡ length l
+    → ((k : ℕ) → exitsFrom n ≤ k → k < weightsFrom n → at l' k ≡ at l k) → Rates mv l' n q
+rates-kept p e h =
+    record {
+      lines = p .lines;
+      long = omega (arith, p .long);
+      exits = λ s b. h _ (omega arith) (omega arith) ∙ p .exits s b;
+      ends = λ s b. h _ (omega arith) (omega arith) ∙ p .ends s b;
+      top = p .top;
+    }
+
+pub prepared-kept : {mv l l' : List ℕ} {n q : ℕ} → Prepared mv l n q → length l' ≡ length l
+    → ((k : ℕ) → valuesFrom n ≤ k → k < marksFrom n → at l' k ≡ at l k) → Prepared mv l' n q
+prepared-kept p e h =
+    record {
+      rates = rates-kept (p .rates) e (λ k a b. h k (omega arith) (omega arith));
+      clear = record {
+        columns = λ k a b. h k a (omega arith) ∙ p .clear .columns k a b;
+        weights = λ k a b. h k (omega arith) b ∙ p .clear .weights k a b;
+      };
+    }
+
+-- the greatest of numbers within the limit
+greatest-most : (f : ℕ → ℕ) (n : ℕ) → ((s : ℕ) → s < n → f s ≤ mostRate) → greatest f n ≤ mostRate
+unfolding greatest
+greatest-most f zero h = omega arith
+greatest-most f (suc n) h = max-most (greatest f n) (f n) (greatest-most f n (λ s l. h s (omega arith))) (h n (omega arith))
+  where
+    max-most : (x y : ℕ) → x ≤ mostRate → y ≤ mostRate → max x y ≤ mostRate
+    max-most x y a b = omega arith
+
+-- no exit rate is over q, and q is not over the limit
+module _ {mv l : List ℕ} {n q : ℕ} (p : Rates mv l n q) where
+  pub rates-slow : (s : ℕ) → s < n → exitOf mv (length mv) s ≤ q
+  unfolding topOf
+  rates-slow s h = rw (p .top) (greatest-le (exitOf mv (length mv)) s n h)
+
+  pub rates-small : q ≤ mostRate
+  unfolding topOf
+  rates-small = rw (p .top) (greatest-most (exitOf mv (length mv)) n (p .lines .limit))
+
+-- move words, and room for what is made of them
+pub record PrepareAsked (mv l : List ℕ) (n : ℕ) : Type 0 where
+  pub lines : Lines mv (length mv) n
+  pub long : vectorLength n ≤ length l
+
+-- the words are prepared, with 0 in the places of the ends too, and all from the marks on is as it was
+pub record Laid (mv : List ℕ) (n : ℕ) (old new : List ℕ) : Type 0 where
+  pub prepared : Prepared mv new n (topOf mv (length mv) n)
+  pub ends : (k : ℕ) → k < valuesFrom n → at new k ≡ 0
+  pub same : length new ≡ length old
+  pub beyond : (k : ℕ) → marksFrom n ≤ k → at new k ≡ at old k
+
+-- words to be worked in
+pub record WorkAsked (l : List ℕ) (n : ℕ) : Type 0 where
+  pub states : n ≤ mostStates
+  pub long : vectorLength n ≤ length l
+
+-- the words that are worked in hold 0, and all others are as they were
+pub record Cleared (n : ℕ) (old new : List ℕ) : Type 0 where
+  pub clear : Clear new n
+  pub same : length new ≡ length old
+  pub ends : (k : ℕ) → k < valuesFrom n → at new k ≡ at old k
+  pub rates : (k : ℕ) → exitsFrom n ≤ k → k < weightsFrom n → at new k ≡ at old k
+  pub beyond : (k : ℕ) → marksFrom n ≤ k → at new k ≡ at old k

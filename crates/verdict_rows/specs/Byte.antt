@@ -1,0 +1,23 @@
+-- The byte of a verdict that follows from other bytes, or from words. Assumes nothing.
+use Prim.Native.Nat.{ℕ, _/_, _%_, _^_}
+use lib.Dec.{eqb}
+use Rattle.csl.specs.Formula.{Comparison}
+use Rattle.csl.specs.Verdicts.{marked, negation, conjunction, judged}
+use Rattle.csl.specs.Lent.{verdictByte}
+use Rattle.verdicts.specs.Byte.{verdictAt}
+
+-- "a label is yes where its mark in the labels text is 1": a state's marks are the bits of a word, the lowest that of label 0
+unfoldable pub labelByte : (word label : ℕ) → ℕ
+labelByte word label = verdictByte (marked (eqb (word / 2 ^ label % 2) 1))
+
+-- "`!` exchanges yes and no"
+unfoldable pub negatedByte : ℕ → ℕ
+negatedByte a = verdictByte (negation (verdictAt a))
+
+-- "`&` is no if either is no, yes if both are yes, else undecided"
+unfoldable pub joinedByte : ℕ → ℕ → ℕ
+joinedByte a b = verdictByte (conjunction (verdictAt a) (verdictAt b))
+
+-- a `P` from its comparison, its threshold and its ends
+unfoldable pub judgedByte : Comparison → ℕ → (lower upper : ℕ) → ℕ
+judgedByte r p lower upper = verdictByte (judged r p lower upper)

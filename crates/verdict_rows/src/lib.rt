@@ -1,0 +1,11 @@
+// Rows of verdict bytes in a lent buffer: a row is n bytes, one for each state, and a slice that is handed to a function begins with the row
+// that is filled.
+mod byte;
+mod row;
+
+pub use row::clear;
+pub use row::fill_label;
+pub use row::fill_yes;
+pub use row::join;
+pub use row::judge;
+pub use row::negate;

@@ -1,0 +1,10 @@
+// Verdicts, and what they come from and go into: comparisons, intervals in billionths, and the answer to a job.
+mod answer;
+mod comparison;
+mod interval;
+mod verdict;
+
+pub use answer::Answer;
+pub use comparison::Comparison;
+pub use interval::Interval;
+pub use verdict::Verdict;

@@ -1,0 +1,65 @@
+// What is known of a node at a state.
+ghost use mathlib.Core.Path.{_≡_};
+ghost use Rattle.csl.specs.Verdicts.{negation, conjunction};
+ghost use Rattle.csl.specs.Lent.{verdictByte};
+ghost use Rattle.verdicts.specs.Paper.{verdictOf};
+ghost use Rattle.verdicts.specs.Byte.{verdictAt};
+
+// Yes, no or undecided.
+pub enum Verdict {
+    No,
+    Yes,
+    Undecided,
+}
+
+impl Verdict {
+    // The verdict of `!`.
+    pub fn negate(self) -> Verdict
+        ensures { λ r. ⌜ verdictOf r ≡ negation (verdictOf self) ⌝ }
+    {
+        match self {
+            Verdict::No => Verdict::Yes,
+            Verdict::Yes => Verdict::No,
+            Verdict::Undecided => Verdict::Undecided,
+        }
+    }
+
+    // The verdict of `&`.
+    pub fn both(self, other: Verdict) -> Verdict
+        ensures { λ r. ⌜ verdictOf r ≡ conjunction (verdictOf self) (verdictOf other) ⌝ }
+    {
+        match self {
+            Verdict::No => Verdict::No,
+            Verdict::Yes => other,
+            Verdict::Undecided => match other {
+                Verdict::No => Verdict::No,
+                Verdict::Yes => Verdict::Undecided,
+                Verdict::Undecided => Verdict::Undecided,
+            },
+        }
+    }
+
+    // The byte that stands for the verdict in a lent buffer.
+    pub fn byte(self) -> u8
+        ensures { λ r. ⌜ r ≡ verdictByte (verdictOf self) ⌝ }
+    {
+        match self {
+            Verdict::No => 0,
+            Verdict::Yes => 1,
+            Verdict::Undecided => 2,
+        }
+    }
+
+    // The verdict that a byte of a lent buffer stands for; a byte that stands for none counts as undecided.
+    pub fn from_byte(b: u8) -> Verdict
+        ensures { λ r. ⌜ verdictOf r ≡ verdictAt b ⌝ }
+    {
+        if b == 0 {
+            Verdict::No
+        } else if b == 1 {
+            Verdict::Yes
+        } else {
+            Verdict::Undecided
+        }
+    }
+}

@@ -1,2 +1,0 @@
--- What the proofs of several functions, or of a cycle of calls, lean on.
-mod Digits

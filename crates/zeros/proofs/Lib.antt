@@ -1,0 +1,2 @@
+-- Laws behind the proofs of `zeros`.
+pub mod ClearLaw

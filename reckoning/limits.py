@@ -1,0 +1,57 @@
+"""The limits, units and sizes of document 01, each with the sentence that it renders; named as in crates/csl/specs/Limits.antt.
+
+Whatever in Python needs such a number takes it from here, so that a request which changes it changes one line.
+"""
+
+# "A billionth is 1/1,000,000,000; thresholds and interval ends are whole billionths."
+BILLION = 1_000_000_000
+
+# "of at most 10 digits in the formula and 9 elsewhere"
+FORMULA_DIGITS = 10
+SHEET_DIGITS = 9
+
+# "up to 16 label names"; "A name is 1 to 12 letters a to z"
+MOST_NAMES = 16
+MOST_LETTERS = 12
+
+# "There are 1 to 512 states."; "0 to 4,096 lines of three numbers"
+MOST_STATES = 512
+MOST_MOVES = 4_096
+
+# "A rate is moves per million hours, from 1."; "the load L is q × t / 1,000,000"
+RATE_HOURS = 1_000_000
+
+# "The rates out of one state add to at most 64,000,000."
+MOST_RATE = 64_000_000
+
+# "One line, at most 512 bytes"; "Moves and labels have at most 61,440 bytes each."
+FORMULA_BYTES = 512
+SHEET_BYTES = 61_440
+
+# "Each state formula counts as one node: at most 64, nested at most 16 deep"
+MOST_NODES = 64
+MOST_LEVELS = 16
+
+# "threshold over 1,000,000,000 or hours over 8,760"; "q × t over 64,000,000 for some until"
+MOST_THRESHOLD = BILLION
+MOST_HOURS = 8_760
+MOST_RATE_HOURS = 64_000_000
+
+# The greatest load that follows.
+MOST_LOAD = MOST_RATE_HOURS // RATE_HOURS
+
+# "The depth D is 2 × (L rounded up to a whole number) + 40."
+LOAD_STEPS = 2
+SPARE_STEPS = 40
+
+# "at most 4 × D from each of them"; "the two ends differ by at most 4 × D"
+WIDTH_FACTOR = 4
+
+# "vector words (64 bits) of 10 × n + 512"
+VECTOR_PLACES = 10
+VECTOR_SPARE = 512
+
+
+def most_hours(rate, rate_hours=MOST_RATE_HOURS):
+    """The most hours for which a greatest exit rate times the hours stays within a limit."""
+    return min(MOST_HOURS, rate_hours // rate) if rate else MOST_HOURS

@@ -1,0 +1,48 @@
+"""Chains for the tests, made and random, with their texts."""
+
+from reckoning.chain import Chain, until
+from reckoning.limits import MOST_RATE, RATE_HOURS, most_hours
+from reckoning.sheets import labels_text, moves_text
+
+
+def row(count, rate):
+    """A row of states, each moving on to the next; `dead` holds at the last, `up` at the others."""
+    last = count - 1
+    return Chain(count, {(s, s + 1): rate for s in range(last)},
+                 {b"up": tuple(s < last for s in range(count)),
+                  b"dead": tuple(s == last for s in range(count))})
+
+
+def texts(chain):
+    """The moves and the labels text of a chain."""
+    moves = sorted((*pair, rate) for pair, rate in chain.rates.items())
+    return moves_text(moves), labels_text(chain.marks, zip(*chain.marks.values()))
+
+
+def random_chain(random, states=None, greatest=None):
+    """A chain of 2 to 6 states with two labels; rates out of a state add to at most `greatest`."""
+    n = states or random.randint(2, 6)
+    greatest = greatest or random.choice((10, 5_000, RATE_HOURS, MOST_RATE))
+    pairs = [(a, b) for a in range(n) for b in range(n) if a != b and random.random() < 0.5]
+    rates = {pair: random.randint(1, greatest // n) for pair in pairs}
+    marks = {name: tuple(random.random() < share for _ in range(n))
+             for name, share in ((b"up", 0.7), (b"dead", 0.3))}
+    return Chain(n, rates, marks)
+
+
+def reading(chain):
+    """Where `up` and where `dead` holds."""
+    return chain.marks[b"up"], chain.marks[b"dead"]
+
+
+def random_hours(random, chain):
+    """Hours that keep q x t within the limit, 0 among them."""
+    most = most_hours(chain.q)
+    return random.choice((0, 1, random.randint(0, most), most))
+
+
+def random_untils(random, count):
+    """So many random chains, each with an until of `up` and `dead` as a phase."""
+    for _ in range(count):
+        chain = random_chain(random)
+        yield chain, until(*reading(chain), random_hours(random, chain))

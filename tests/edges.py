@@ -1,0 +1,118 @@
+"""Jobs that meet a limit of document 01 exactly, and jobs that pass it by one."""
+from reckoning.limits import (BILLION, FORMULA_BYTES, FORMULA_DIGITS, MOST_HOURS, MOST_LETTERS, MOST_LEVELS, MOST_MOVES, MOST_NAMES, MOST_NODES,
+                              MOST_RATE, MOST_RATE_HOURS, MOST_STATES, SHEET_BYTES, SHEET_DIGITS, most_hours)
+from reckoning.sheets import LABELS, MOVES, MOVES_LINE, NO_MOVES, labels_text, moves_text, until
+
+
+def small(formula):
+    """A formula, without its line feed, put to the small sheet."""
+    return MOVES, LABELS, formula + b"\n"
+
+
+def typed(lines):
+    """Lines of moves, without the last line feed, over the small sheet's states."""
+    return MOVES_LINE + lines + b"\n", LABELS, b"tt\n"
+
+
+def states(count):
+    return NO_MOVES, labels_text([b"up"], [[1]] * count), b"up\n"
+
+
+def moves(count):
+    """So many moves, among as few states as have room for one more than the limit."""
+    n = next(n for n in range(2, MOST_STATES) if n * (n - 1) > MOST_MOVES)
+    pairs = [(a, b, 1) for a in range(n) for b in range(n) if a != b]
+    return moves_text(pairs[:count]), labels_text([], [[]] * n), b"tt\n"
+
+
+def names(count):
+    words = [bytes([97 + at]) for at in range(count)]
+    return NO_MOVES, labels_text(words, [[1] * count]), words[-1] + b"\n"
+
+
+def named(*words):
+    return NO_MOVES, labels_text(words, [[1] * len(words)]), b"tt\n"
+
+
+def levels(count):
+    return small(b"! " * (count - 1) + b"up")
+
+
+def nodes(count):
+    """A formula of so many nodes, nested as little as can be."""
+    def tree(k):
+        if k == 1:
+            return b"up"
+        left = (k - 1) // 2 | 1
+        return b"& " + tree(left) + b" " + tree(k - 1 - left)
+    return small(tree(count) if count % 2 else b"! " + tree(count - 1))
+
+
+def rates(total):
+    """Two moves out of a state whose rates add up to so much."""
+    half = total // 2
+    return moves_text([(0, 1, half), (0, 2, total - half)]), labels_text([], [[]] * 3), b"tt\n"
+
+
+def load(rate, hours):
+    """A greatest exit rate, and an until over so many hours."""
+    return moves_text([(0, 1, rate)]), LABELS, until(hours)
+
+
+def threshold(number):
+    return MOVES, LABELS, until(1, threshold=number)
+
+
+def formula_bytes(count):
+    """Too many levels, so 11 while the bytes are within the limit."""
+    return MOVES, LABELS, b"! " * ((count - 2) // 2) + b"u" * (1 + count % 2) + b"\n"
+
+
+def filled(head, line, count):
+    """A text of exactly so many bytes: a head, then the line again and again, the last one longer by what is left."""
+    lines, rest = divmod(count - len(head), len(line))
+    return head + line * (lines - 1) + line[:-1] + b"0" * rest + b"\n"
+
+
+def label_bytes(count):
+    """States out of turn, so 4 while the bytes are within the limit."""
+    return MOVES, filled(b"state\n", b"1\n", count), b"tt\n"
+
+
+def move_bytes(count):
+    """Too many moves, so 5 while the bytes are within the limit."""
+    return filled(MOVES_LINE, b"0,1,1\n", count), LABELS, b"tt\n"
+
+
+def about(job, limit):
+    """The job that meets a limit and the one that passes it."""
+    return job(limit), job(limit + 1)
+
+
+def pairs():
+    """For each limit a job that meets it and one that passes it."""
+    near = MOST_RATE_HOURS // 401 + 1                   # with 401 hours it passes the limit by as little as can be
+    return {
+        "states": about(states, MOST_STATES),
+        "moves": about(moves, MOST_MOVES),
+        "names": about(names, MOST_NAMES),
+        "letters": about(lambda count: named(b"a" * count), MOST_LETTERS),
+        "a name tt": (named(b"t", b"ta", b"at", b"tta"), named(b"t", b"ta", b"tt")),
+        "a name state": (named(b"stat", b"states"), named(b"stat", b"state")),
+        "a name again": (named(b"up", b"upper", b"u"), named(b"up", b"upper", b"up")),
+        "an empty name": (named(), named(b"")),
+        "levels": about(levels, MOST_LEVELS),
+        "nodes": about(nodes, MOST_NODES),
+        "rates": about(rates, MOST_RATE),
+        "load": about(lambda hours: load(MOST_RATE, hours), most_hours(MOST_RATE)),
+        "load by one": (load(MOST_RATE_HOURS // 400, 400), load(near, 401)),
+        "hours": about(lambda hours: load(1, hours), MOST_HOURS),
+        "threshold": about(threshold, BILLION),
+        "digits in the formula": (threshold(BILLION), threshold(10**FORMULA_DIGITS)),
+        "digits in moves": (typed(b"0,1," + b"9" * SHEET_DIGITS), typed(b"0,1,1" + b"0" * SHEET_DIGITS)),
+        "formula bytes": about(formula_bytes, FORMULA_BYTES),
+        "bytes of labels": about(label_bytes, SHEET_BYTES),
+        "bytes of moves": about(move_bytes, SHEET_BYTES),
+        "another state": (typed(b"0,1,1"), typed(b"0,0,1")),
+        "no state": ((NO_MOVES, b"state\n0\n", b"tt\n"), (NO_MOVES, b"state\n", b"tt\n")),
+    }
