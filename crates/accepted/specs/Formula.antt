@@ -1,10 +1,10 @@
 -- What a formula has that passed its tests over a sheet. Assumes nothing.
 use mathlib.Core.Path.{_≡_, refl}
-use mathlib.Core.Bool.{true, _&&_, true≢false, false}
+use mathlib.Core.Bool.{true, true≢false, false}
 use mathlib.Core.List.{List}
 use mathlib.Core.Option.{Option, none, some}
-use Prim.Native.Nat.{ℕ, _*_, _≤_}
-use lib.Dec.{leb, ltb}
+use Prim.Native.Nat.{ℕ, _≤_}
+use lib.Dec.{ltb}
 use borrow.Author.Tests.{ltb-false, not-false}
 use Rattle.csl.specs.Text.{Text, among}
 use Rattle.csl.specs.Limits.{mostNodes, mostLevels}

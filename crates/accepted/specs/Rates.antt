@@ -3,7 +3,7 @@
 use mathlib.Core.Path.{_≡_, refl, ap, sym, _∙_}
 use mathlib.Core.Bool.{Bool, true, false, cond, _&&_, _||_}
 use mathlib.Core.List.{List, [], _∷_}
-use Prim.Native.Nat.{ℕ, zero, suc, _+_, max, _≤_, _<_}
+use Prim.Native.Nat.{ℕ, zero, suc, _+_, _≤_, _<_}
 use mathlib.Core.Logic.{_⊎_, inl, inr, ⊎-elim}
 use native.Mathlib.Omega.{arith}
 use lib.Dec.{leb, ltb, eqb}
@@ -12,8 +12,8 @@ use Rattle.csl.specs.Text.{any}
 use Rattle.csl.specs.Limits.{mostRate}
 use Rattle.csl.specs.Moves.{Move, rateIn, ratesOut}
 use Rattle.csl.specs.Sheet.{Sheet}
-use Rattle.csl.specs.Chain.{Chain, chainOf, sumTo, greatest, away, exitRate, topRate}
-use Rattle.csl.specs.Laws.Sum.{sum-cong, sum-add, sum-none, greatest-le, greatest-most}
+use Rattle.csl.specs.Chain.{chainOf, sumTo, away, exitRate}
+use Rattle.numbers.specs.Sum.{sum-cong, sum-add, sum-none}
 use Rattle.csl.specs.Refusal.{strangeState, ownState, wrongRate}
 use Rattle.accepted.specs.Order.{neither}
 

@@ -1,8 +1,7 @@
 -- What a sheet has whose two texts passed their tests: of the texts, and of the value that goes on from them. Assumes nothing.
 use mathlib.Core.Path.{_≡_, refl, sym}
 use mathlib.Core.Bool.{Bool, true, false, not, _&&_, _||_, and-eq-true-iff}
-use mathlib.Core.List.{List, [], _∷_, headD}
-use mathlib.Core.Logic.{_⊎_, inl, inr, ⊎-elim}
+use mathlib.Core.List.{[], headD}
 use mathlib.Core.Option.{none}
 use Prim.Native.Nat.{ℕ, zero, suc, _≤_}
 use native.Mathlib.Omega.{arith}
@@ -10,14 +9,14 @@ use lib.ListN.{length}
 use lib.Dec.{leb, ltb, eqb}
 use borrow.Author.Tests.{leb-true, ltb-false, eqb-false, not-false}
 use Rattle.csl.specs.Text.{Text, bytes, same, every}
-use Rattle.csl.specs.Limits.{mostNames, mostStates, mostMoves, mostRate, sheetBytes}
+use Rattle.csl.specs.Limits.{mostNames, mostStates, mostMoves, mostRate}
 use Rattle.csl.specs.Line.{firstLine, laterLines, fieldsOf}
 use Rattle.csl.specs.Labels.{isName, noRepeat, labelsHead, labelsLayout, inTurn, namesOf, statesOf}
 use Rattle.csl.specs.Moves.{movesHead, movesLayout, movesOf, isRising, ratesOut}
 use Rattle.csl.specs.Sheet.{Sheet, sheetOf}
 use Rattle.csl.specs.Chain.{chainOf, greatest, topRate}
-use Rattle.csl.specs.Laws.Sum.{greatest-most}
-use Rattle.csl.specs.Refusal.{outOfBytes, brokenLayout, wrongFirstLine, wrongStates, manyMoves, strangeState, ownState, notRising, wrongRate, sheetTests, firstOf}
+use Rattle.numbers.specs.Sum.{greatest-most}
+use Rattle.csl.specs.Refusal.{brokenLayout, wrongFirstLine, wrongStates, manyMoves, strangeState, notRising, wrongRate, sheetTests, firstOf}
 use Rattle.accepted.specs.Order.{neither, NoneHolds, first-none}
 use Rattle.accepted.specs.Rates.{Within, Apart, within-tested, apart-tested, rates-tested, exit-by-lines}
 

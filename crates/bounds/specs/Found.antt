@@ -5,7 +5,7 @@ use mathlib.Core.Bool.{Bool, true, false, cond, and-eq-true-iff}
 use Prim.Native.Nat.{ℕ, _*_, _-_, _/_, _≤_, _<_}
 use native.Mathlib.Omega.{arith}
 use lib.Dec.{leb, eqb}
-use borrow.Author.Tests.{leb-true, eqb-false, not-false}
+use borrow.Author.Tests.{leb-true, eqb-false}
 use Rattle.csl.specs.Limits.{billion, rateHours, mostRateHours}
 use Rattle.csl.specs.Formula.{Comparison, Formula, always, label, negated, both, chance, Path, until, PathOf, untilOf, pathOf}
 use Rattle.csl.specs.Formula.{phasesPass, pathsPass, pathsPassIn}

@@ -14,7 +14,7 @@ use Rattle.csl.specs.Formula.{Formula, nodes}
 use Rattle.csl.specs.Grammar.{readFormula}
 use Rattle.csl.specs.Chain.{chainOf, topRate}
 use Rattle.csl.specs.Lent.{Buffers, lengths, needed, isShort}
-use Rattle.csl.specs.Refusal.{Job, jobSheet, jobChain, jobFormula, Outcome, outcome, refusal, outcomeBy, textRefusal, outOfBytes, sheetTests, formulaTests, formulaFrom, shortBuffer, firstOf}
+use Rattle.csl.specs.Refusal.{Job, jobChain, jobFormula, Outcome, outcome, textRefusal, outOfBytes, sheetTests, formulaTests, shortBuffer, firstOf}
 use Rattle.csl.specs.Finished.{Answer, refusedWith, acceptedWith, Finished, FinishedBy}
 use Rattle.accepted.specs.Sheet.{SheetPassed, sheet-passed}
 use Rattle.accepted.specs.Formula.{FormulaPassed, formula-passed}

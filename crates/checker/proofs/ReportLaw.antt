@@ -13,10 +13,9 @@ use Rattle.csl.specs.Text.{Text}
 use Rattle.csl.specs.Limits.{mostStates, mostNodes, mostLevels}
 use Rattle.csl.specs.Labels.{namesOf, statesOf}
 use Rattle.csl.specs.Moves.{movesOf}
-use Rattle.csl.specs.Sheet.{sheetOf}
 use Rattle.csl.specs.Formula.{nodes, levels}
-use Rattle.csl.specs.Chain.{Chain, chainOf, topRate}
-use Rattle.csl.specs.Lent.{Buffers, lengths, column, written}
+use Rattle.csl.specs.Chain.{topRate}
+use Rattle.csl.specs.Lent.{Buffers, column, written}
 use Rattle.numbers.specs.Filled.{at, Table, table-at, table-rest, zeros-written}
 use Rattle.formula.specs.Each.{nodes-some}
 use Rattle.formula.specs.Stored.{levels-nodes}
@@ -24,7 +23,6 @@ use Rattle.formula.specs.declared.nodes.Nodes.{Nodes}
 use Rattle.vectors.specs.Places.{vectorLength}
 use Rattle.verdict_rows.specs.Row.{EndsIn}
 use Rattle.results.specs.Column.{column-as}
-use Rattle.refusals.specs.Sheet.{dimensionsOf}
 use Rattle.refusals.specs.declared.sheet_tests.Dimensions.{Dimensions}
 use Rattle.sheet_words.specs.Stored.{StoreAsked, Stored}
 use Rattle.sheet_words.specs.Shown.{sheet-shown, marks-shown}

@@ -22,7 +22,7 @@ use Rattle.until.specs.Reading.{verdicts, lowPhase, highPhase}
 use Rattle.until.specs.Asked.{Until}
 use Rattle.until.specs.Shown.{low-rounds, high-rounds, depth-shown, lower-shown, upper-shown}
 use Rattle.decide.specs.Kinds.{ChanceAsked, ChanceLeaves}
-use Rattle.decide.proofs.SliceLaw.{rest, rest-at}
+use Rattle.numbers.specs.Part.{rest, rest-at}
 use Rattle.decide.proofs.RowsLaw.{row-cleared}
 use Rattle.decide.proofs.ReportLaw.{ends-in}
 

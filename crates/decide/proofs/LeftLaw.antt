@@ -9,7 +9,7 @@ use Rattle.vectors.specs.Places.{marksFrom}
 use Rattle.verdict_rows.specs.Byte.{labelByte, joinedByte}
 use Rattle.until.specs.Asked.{Still}
 use Rattle.decide.specs.Kinds.{Plain, BothLeaves}
-use Rattle.decide.proofs.SliceLaw.{rest, back, rest-at, part-filled}
+use Rattle.numbers.specs.Part.{rest, back, rest-at, part-filled}
 use Rattle.decide.proofs.RowsLaw.{row-cleared}
 
 pub label-left : {l l' m m' : List ℕ} {n from r : ℕ} (place : ℕ) → from ≡ marksFrom n → Table (λ s. labelByte (at (rest l from) s) place) m m' n

@@ -24,7 +24,7 @@ use Rattle.formula.specs.declared.nodes.Node.{Node}
 use Rattle.formula.specs.declared.nodes.Path.{Path}
 use Rattle.decide.specs.Asked.{DecideAsked, formulaOf, Decides}
 use Rattle.decide.specs.Kinds.{LabelAsked, ChanceAsked, ChanceLeaves, Plain, PlainAsked, BothAsked, BothLeaves}
-use Rattle.decide.proofs.SliceLaw.{rest, back}
+use Rattle.numbers.specs.Part.{rest, back}
 use Rattle.decide.proofs.ReportLaw.{plain-decides, plain-as, decides-over, row-over, chance-decides, label-byte, negated-byte, joined-byte}
 use Rattle.decide.proofs.AskedLaw.{Leaves, leaves-none, still-prepared, room-for, own-row, own-ends, under, operand, of-kind, is-decided}
 use Rattle.decide.proofs.TwoLaw.{Two, first-asked, second-asked, ends-kept, rows-first, rows-second, rows-held, rows-merged}

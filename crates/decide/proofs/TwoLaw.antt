@@ -11,7 +11,7 @@ use Rattle.bounds.specs.Found.{found, reportLower, reportUpper}
 use Rattle.vectors.specs.Places.{EndsStored}
 use Rattle.formula.specs.declared.nodes.Node.{Node}
 use Rattle.decide.specs.Asked.{DecideAsked, formulaOf}
-use Rattle.decide.proofs.SliceLaw.{rest, back, rest-at, rest-length, part-filled}
+use Rattle.numbers.specs.Part.{rest, back, rest-at, rest-length, part-filled}
 use Rattle.decide.proofs.RowsLaw.{ends-over, first-row, second-row, merged}
 use Rattle.decide.proofs.AskedLaw.{Leaves, levels-some, marked-kept, still-prepared, room-for, under, operand}
 

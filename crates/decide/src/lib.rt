@@ -21,7 +21,8 @@ pub fn decide(
     q: u64,
 ) -> usize
     requires { ⌜ DecideAsked (now moves) (now vectors) (now marks) (formula .nodes) node levels n q ⌝ }
-    ensures { λ r. ⌜ ((a : DecideAsked (now (moves .entry)) (now (vectors .entry)) (now (marks .entry)) (formula .nodes) node levels n q) → Decides (a .c) (formulaOf a) n (now (vectors .entry)) (now (vectors .exit)) (now (marks .entry)) (now (marks .exit)) r) ⌝ }
+    ensures { λ r. ⌜ ((a : DecideAsked (now (moves .entry)) (now (vectors .entry)) (now (marks .entry)) (formula .nodes) node levels n q)
+        → Decides (a .c) (formulaOf a) n (now (vectors .entry)) (now (vectors .exit)) (now (marks .entry)) (now (marks .exit)) r) ⌝ }
 {
     if levels == 0 {
         return 0;

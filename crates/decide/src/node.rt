@@ -23,7 +23,9 @@ pub fn always(vectors: &mut [u64], marks: &mut [u8], n: usize) -> usize
 // Of a label, from the marks among the vector words.
 pub fn label(vectors: &mut [u64], place: usize, marks: &mut [u8], n: usize) -> usize
     requires { ⌜ LabelAsked (now vectors) (now marks) place n ⌝ }
-    ensures { λ r. ⌜ Plain (λ s. labelByte (at (now (vectors .entry)) (marksFrom n + s)) place) n (now (vectors .entry)) (now (vectors .exit)) (now (marks .entry)) (now (marks .exit)) r ⌝ }
+    ensures { λ r. ⌜ Plain
+        (λ s. labelByte (at (now (vectors .entry)) (marksFrom n + s)) place) n
+        (now (vectors .entry)) (now (vectors .exit)) (now (marks .entry)) (now (marks .exit)) r ⌝ }
 {
     let from = vectors::marks(n);
     verdict_rows::fill_label(&vectors[from..], place, marks, n);
@@ -33,7 +35,9 @@ pub fn label(vectors: &mut [u64], place: usize, marks: &mut [u8], n: usize) -> u
 // Of `!`, whose operand's row is its own.
 pub fn negated(vectors: &mut [u64], marks: &mut [u8], n: usize) -> usize
     requires { ⌜ PlainAsked (now vectors) (now marks) n ⌝ }
-    ensures { λ r. ⌜ Plain (λ s. negatedByte (at (now (marks .entry)) s)) n (now (vectors .entry)) (now (vectors .exit)) (now (marks .entry)) (now (marks .exit)) r ⌝ }
+    ensures { λ r. ⌜ Plain
+        (λ s. negatedByte (at (now (marks .entry)) s)) n
+        (now (vectors .entry)) (now (vectors .exit)) (now (marks .entry)) (now (marks .exit)) r ⌝ }
 {
     verdict_rows::negate(marks, n);
     plain(vectors, marks, n)
@@ -79,7 +83,8 @@ pub fn chance(
     threshold: u64,
 ) -> usize
     requires { ⌜ ChanceAsked (now moves) (now vectors) (now marks) n q (path .hours) threshold ⌝ }
-    ensures { λ r. ⌜ ((a : ChanceAsked (now (moves .entry)) (now (vectors .entry)) (now (marks .entry)) n q (path .hours) threshold) → ChanceLeaves a (comparisonOf comparison) (now (vectors .exit)) (now (marks .exit)) r) ⌝ }
+    ensures { λ r. ⌜ ((a : ChanceAsked (now (moves .entry)) (now (vectors .entry)) (now (marks .entry)) n q (path .hours) threshold)
+        → ChanceLeaves a (comparisonOf comparison) (now (vectors .exit)) (now (marks .exit)) r) ⌝ }
 {
     let rows = &marks[..];
     let depth = until::until(moves, vectors, rows, &rows[n..], n, q, path.hours);

@@ -4,7 +4,7 @@ use Prim.Native.Nat.{ℕ, _+_, _-_, _*_, _≤_, max}
 use native.Mathlib.Omega.{arith}
 use mathlib.Core.List.{List}
 use lib.ListN.{length, take, drop, length-drop}
-use Rattle.csl.specs.Text.{Text, bytes}
+use Rattle.csl.specs.Text.{Text}
 use Rattle.csl.specs.Line.{space}
 use Rattle.csl.specs.Formula.{Formula, both, chance, until, nodes, nodesIn, levels, levelsIn, Comparison}
 use Rattle.csl.specs.Grammar.{Found, nothing, found, andThen, pair, path}

@@ -29,12 +29,12 @@ pub struct Node {
 
 // The nodes of a formula in a row; the first `count` are its own.
 pub struct Nodes {
-    pub nodes: [Node; 64],
+    pub nodes: [Node; limits::MOST_NODES],
     pub count: usize,
 }
 
 // No nodes.
 pub const EMPTY: Nodes = Nodes {
-    nodes: [Node { kind: Kind::Always }; 64],
+    nodes: [Node { kind: Kind::Always }; limits::MOST_NODES],
     count: 0,
 };

@@ -7,6 +7,7 @@ use limits::MOST_RATE_HOURS;
 use limits::MOST_THRESHOLD;
 ghost use mathlib.Core.Path.{_≡_};
 ghost use Prim.Native.Nat.{_≤_};
+ghost use Rattle.csl.specs.Limits.{mostNodes};
 ghost use Rattle.formula.specs.Nodes.{pathMeant};
 ghost use Rattle.formula.specs.Pass.{lightOf, placePasses, pathPasses, passed, allPassed};
 
@@ -69,7 +70,7 @@ fn passes(test: Test, kind: Kind) -> bool
 
 // Whether every node of a formula passes a test.
 pub fn all_pass(nodes: Nodes, test: Test) -> bool
-    requires { ⌜ nodes .count ≤ 64 ⌝ }
+    requires { ⌜ nodes .count ≤ mostNodes ⌝ }
     ensures { λ r. ⌜ r ≡ allPassed test nodes ⌝ }
 {
     let n = nodes.count;

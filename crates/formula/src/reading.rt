@@ -7,6 +7,7 @@ use limits::MOST_LEVELS;
 use limits::MOST_NODES;
 ghost use mathlib.Core.Path.{_≡_};
 ghost use Prim.Native.Nat.{_≤_};
+ghost use Rattle.csl.specs.Limits.{mostNodes};
 ghost use Rattle.csl.specs.Line.{comma};
 ghost use Rattle.csl.specs.Grammar.{readFormula};
 ghost use Rattle.texts.specs.Behind.{partsBehind};
@@ -24,7 +25,7 @@ pub struct Reading {
 // Reads a formula text whose label names are these, each behind a comma.
 pub fn read(text: &[u8], names: &[u8]) -> Reading
     ensures { λ r. ⌜ r ≡ readingOf (partsBehind comma (now (names .entry))) (readFormula (now (text .entry))) ⌝ }
-    ensures within { λ r. ⌜ r .nodes .count ≤ 64 ⌝ }
+    ensures within { λ r. ⌜ r .nodes .count ≤ mostNodes ⌝ }
 {
     let e = size::size_text(text);
     if !e.readable {

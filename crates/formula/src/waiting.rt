@@ -7,14 +7,14 @@ ghost use Rattle.formula.specs.Waiting.{waitingRoom, waitFor, waitOver};
 // Places wait from `from` on, the next first. Each node takes one place and adds at most two, so for 64 nodes there is room on either side of
 // the middle, where the first place is put.
 pub struct Waiting {
-    pub places: [usize; 128],
+    pub places: [usize; 2 * limits::MOST_NODES],
     pub from: usize,
 }
 
 // No place waits.
 pub const EMPTY: Waiting = Waiting {
-    places: [0; 128],
-    from: 65,
+    places: [0; 2 * limits::MOST_NODES],
+    from: limits::MOST_NODES + 1,
 };
 
 // One place more, before the others.

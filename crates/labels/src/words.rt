@@ -39,7 +39,8 @@ fn word(s: &[u8], count: usize) -> u64
 
 // The words of the states of an accepted text.
 pub fn store(s: &[u8], names: usize, words: &mut [u64])
-    requires { ⌜ (labelsLayout (now s) ≡ true) × (names ≡ length (namesOf (now s))) × (names ≤ mostNames) × (statesOf (now s) ≤ length (now words)) ⌝ }
+    requires { ⌜ (labelsLayout (now s) ≡ true) × (names ≡ length (namesOf (now s)))
+        × (names ≤ mostNames) × (statesOf (now s) ≤ length (now words)) ⌝ }
     ensures { λ r. ⌜ Table (stateWord (now (s .entry))) (now (words .entry)) (now (words .exit)) (statesOf (now (s .entry))) ⌝ }
 {
     let end = texts::span(s, b'\n');

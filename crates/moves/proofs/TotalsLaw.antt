@@ -7,7 +7,7 @@ use mathlib.Core.Bool.{Bool, true, false, cond, _&&_, _||_, or-false, or-true, a
 use mathlib.Core.List.{List, [], _∷_}
 use mathlib.Core.Logic.{_⊎_, inl, inr, ⊎-elim}
 use Rattle.accepted.specs.Rates.{Within, within-tested}
-use Rattle.csl.specs.Laws.Sum.{greatest-le, greatest-most}
+use Rattle.numbers.specs.Sum.{greatest-le, greatest-most}
 use Rattle.csl.specs.Chain.{greatest}
 use lib.Dec.{ltb, eqb}
 use borrow.Author.Tests.{lt-ltb, eq-eqb, ne-eqb, ltb-true, ltb-false, eqb-true, eqb-false}

@@ -30,7 +30,8 @@ fn known_line(t: &[u8]) -> Known
 // The moves of an accepted text, one word each.
 pub fn store(s: &[u8], words: &mut [u64])
     requires { ⌜ (csl.movesLayout (now s) ≡ true) × (length (csl.movesOf (now s)) ≤ length (now words)) ⌝ }
-    ensures { λ r. ⌜ Table (moveWord (now (s .entry))) (now (words .entry)) (now (words .exit)) (length (csl.movesOf (now (s .entry)))) ⌝ }
+    ensures { λ r. ⌜ Table
+        (moveWord (now (s .entry))) (now (words .entry)) (now (words .exit)) (length (csl.movesOf (now (s .entry)))) ⌝ }
 {
     let end = texts::span(s, b'\n');
     if s.len() <= end {

@@ -2,3 +2,4 @@
 pub mod Hint
 pub mod Sum
 pub mod Filled
+pub mod Part

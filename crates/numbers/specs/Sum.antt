@@ -1,13 +1,13 @@
--- Laws of the sum of a function below n. Assumes nothing.
+-- Laws of the sum and of the greatest of f 0 to f (n - 1). Assumes nothing.
 use mathlib.Core.Path.{_≡_, refl}
 use Prim.Native.Nat.{ℕ, zero, suc, _+_, _*_, _≤_, _<_}
 use native.Mathlib.Omega.{arith}
 use native.Mathlib.Numerals.{add-one}
 use native.Mathlib.Nat.{le-refl, le-suc-iff}
 use mathlib.Core.Logic.{⊎-elim}
-use Rattle.csl.specs.Chain.{sumTo}
+use Rattle.csl.specs.Chain.{sumTo, greatest}
 use Rattle.numbers.specs.Hint.{le-times}
-pub use Rattle.csl.specs.Laws.Sum.{sum-le, sum-add, sum-weighted, sum-cong}
+pub use Rattle.csl.specs.Laws.Sum.{sum-le, sum-weighted, greatest-le}
 
 -- by the code's names
 pub sum-zero : (f : ℕ → ℕ) → sumTo f 0 ≡ 0
@@ -17,6 +17,34 @@ sum-zero f = refl
 pub sum-next : (f : ℕ → ℕ) (n : ℕ) → sumTo f (n + 1) ≡ sumTo f n + f n
 unfolding sumTo
 sum-next f n = rw add-one
+
+-- functions that agree below n have one sum there
+pub sum-cong : (f g : ℕ → ℕ) (n : ℕ) → ((k : ℕ) → k < n → f k ≡ g k) → sumTo f n ≡ sumTo g n
+unfolding sumTo
+sum-cong f g zero h = refl
+sum-cong f g (suc n) h =
+    let r : (k : ℕ) → k < n → f k ≡ g k = λ k l. h k (omega arith) in
+    omega (arith, sum-cong f g n r, h n (omega arith))
+
+pub sum-add : (f g : ℕ → ℕ) (n : ℕ) → sumTo (λ k. f k + g k) n ≡ sumTo f n + sumTo g n
+unfolding sumTo
+sum-add f g zero = omega arith
+sum-add f g (suc n) = omega (arith, sum-add f g n)
+
+pub sum-none : (f : ℕ → ℕ) (n : ℕ) → ((k : ℕ) → k < n → f k ≡ 0) → sumTo f n ≡ 0
+unfolding sumTo
+sum-none f zero h = refl
+sum-none f (suc n) h =
+    let r : (k : ℕ) → k < n → f k ≡ 0 = λ k l. h k (omega arith) in
+    omega (arith, sum-none f n r, h n (omega arith))
+
+-- the greatest is at most what each is at most
+pub greatest-most : (f : ℕ → ℕ) (m n : ℕ) → ((k : ℕ) → k < n → f k ≤ m) → greatest f n ≤ m
+unfolding greatest
+greatest-most f m zero h = omega arith
+greatest-most f m (suc n) h =
+    let r : (k : ℕ) → k < n → f k ≤ m = λ k l. h k (omega arith) in
+    omega (arith, greatest-most f m n r, h n (omega arith))
 
 pub sum-mono : (f : ℕ → ℕ) (i n : ℕ) → i ≤ n → sumTo f i ≤ sumTo f n
 unfolding sumTo

@@ -25,7 +25,8 @@ fn row(moves: &[u64], words: &[u64], n: usize, begin: usize, end: usize, own: u6
 // The value of state s one step on: its own where that is held, else from those of all states, its own by what stays put and its row's.
 fn state(moves: &[u64], words: &[u64], n: usize, q: u64, s: usize, begin: usize, end: usize) -> u64
     requires { ⌜ StateAsked (now moves) (now words) n q s begin end ⌝ }
-    ensures { λ r. ⌜ r ≡ next (now (moves .entry)) (length (now (moves .entry))) q (heldAt (now (words .entry)) n q) (valueAt (now (words .entry)) n) s ⌝ }
+    ensures { λ r. ⌜ r ≡ next (now (moves .entry)) (length (now (moves .entry))) q
+        (heldAt (now (words .entry)) n q) (valueAt (now (words .entry)) n) s ⌝ }
 {
     let own = words[vectors::VALUES * n + s];
     let stays = words[vectors::STAYS * n + s];

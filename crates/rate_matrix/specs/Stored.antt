@@ -11,7 +11,7 @@ use Rattle.csl.specs.Limits.{mostStates, mostMoves, mostRate}
 use Rattle.csl.specs.Moves.{Move, isRising, rateIn, ratesOut}
 use Rattle.csl.specs.Sheet.{Sheet}
 use Rattle.csl.specs.Chain.{chainOf}
-use Rattle.csl.specs.Laws.Sum.{sum-cong}
+use Rattle.numbers.specs.Sum.{sum-cong}
 use Rattle.accepted.specs.Rates.{Within, away-by-lines}
 use Rattle.accepted.specs.Sheet.{Sound}
 use Rattle.rate_matrix.specs.Packed.{packedMove, to-packed, from-packed, rate-packed}

@@ -1,15 +1,13 @@
 -- Tests 1 to 9 of two texts: their lengths, then what is told from their facts. Assumes nothing.
-use mathlib.Core.Path.{_≡_, refl, sym, ap, _∙_}
+use mathlib.Core.Path.{_≡_, sym, ap, _∙_}
 use Prim.Native.Nat.{ℕ, _≤_}
-use mathlib.Core.Bool.{Bool, true, false, cond, not, _&&_, _||_}
-use mathlib.Core.Option.{Option, none, some}
-use lib.ListN.{length}
+use mathlib.Core.Bool.{Bool, true, false, _||_}
+use mathlib.Core.Option.{Option, none}
 use lib.Dec.{ltb, eqb}
 use borrow.Author.Tests.{ltb-false}
 use Rattle.csl.specs.Text.{Text}
 use Rattle.csl.specs.Limits.{sheetBytes}
-use Rattle.csl.specs.Labels.{labelsLayout}
-use Rattle.csl.specs.Moves.{movesLayout, movesOf, movesHead, isRising}
+use Rattle.csl.specs.Moves.{movesOf, movesHead}
 use Rattle.csl.specs.Sheet.{sheetOf}
 use Rattle.csl.specs.Refusal.{outOfBytes, sheetTests, firstOf}
 use Rattle.accepted.specs.Order.{neither}

@@ -11,6 +11,7 @@ ghost use mathlib.Core.Option.{Option};
 ghost use Prim.Native.Nat.{_≤_};
 ghost use lib.ListN.{length};
 ghost use Rattle.csl.specs.Text.{Text};
+ghost use Rattle.csl.specs.Limits.{mostNodes};
 ghost use Rattle.csl.specs.Line.{comma};
 ghost use Rattle.csl.specs.Formula as csl;
 ghost use Rattle.csl.specs.Grammar.{readFormula};
@@ -27,8 +28,9 @@ pub struct TestedFormula {
 
 // Tests 10 to 14 of what was read, where there are `names` label names and the uniformisation rate is q.
 fn judge(reading: Reading, names: usize, q: u64) -> Tested
-    requires { ⌜ reading .nodes .count ≤ 64 ⌝ }
-    ensures { λ r. ⌜ ((ns : List Text) (o : Option csl.Formula) → reading ≡ readingOf ns o → names ≡ length ns → r ≡ testedBy (firstOf (formulaTests ns q o))) ⌝ }
+    requires { ⌜ reading .nodes .count ≤ mostNodes ⌝ }
+    ensures { λ r. ⌜ ((ns : List Text) (o : Option csl.Formula)
+        → reading ≡ readingOf ns o → names ≡ length ns → r ≡ testedBy (firstOf (formulaTests ns q o))) ⌝ }
 {
     if !reading.readable {
         return Tested::Refused(10);
@@ -52,7 +54,8 @@ fn judge(reading: Reading, names: usize, q: u64) -> Tested
 // Tests 10 to 14 of a formula's text over a sheet that passed: its `count` label names, each behind a comma, and its uniformisation rate.
 pub fn test_formula(text: &[u8], names: &[u8], count: usize, q: u64) -> TestedFormula
     requires { ⌜ count ≡ length (partsBehind comma (now names)) ⌝ }
-    ensures { λ r. ⌜ r .tested ≡ testedBy (firstOf (formulaTests (partsBehind comma (now (names .entry))) q (readFormula (now (text .entry))))) ⌝ }
+    ensures { λ r. ⌜ r .tested ≡ testedBy (firstOf (formulaTests
+        (partsBehind comma (now (names .entry))) q (readFormula (now (text .entry))))) ⌝ }
     ensures laid { λ r. ⌜ r .nodes ≡ readingOf (partsBehind comma (now (names .entry))) (readFormula (now (text .entry))) .nodes ⌝ }
 {
     let reading = formula::read(text, names);

@@ -34,7 +34,8 @@ pub fn render(
     upper: &[u32],
     verdicts: &[u8],
 ) -> Rendered
-    ensures { λ r. ⌜ Printed states (answerOf answer) (now (lower .entry)) (now (upper .entry)) (now (verdicts .entry)) (now (out .entry)) (now (out .exit)) r ⌝ }
+    ensures { λ r. ⌜ Printed states (answerOf answer)
+        (now (lower .entry)) (now (upper .entry)) (now (verdicts .entry)) (now (out .entry)) (now (out .exit)) r ⌝ }
 {
     match answer {
         Answer::Accepted(depth) => render_report(out, states, depth, lower, upper, verdicts),
@@ -44,7 +45,8 @@ pub fn render(
 
 // The text of a refusal.
 fn render_refusal(out: &mut [u8], number: u64) -> Rendered
-    ensures { λ r. ⌜ Rendering (leb (length (refusalText number)) (length (now (out .entry)))) (refusalText number) (now (out .entry)) (now (out .exit)) r ⌝ }
+    ensures { λ r. ⌜ Rendering (leb (length (refusalText number)) (length (now (out .entry)))) (refusalText number)
+        (now (out .entry)) (now (out .exit)) r ⌝ }
 {
     if out.len() < decimal_length(number) + 9 {
         return Rendered::Short;
@@ -63,7 +65,8 @@ fn render_report(
     upper: &[u32],
     verdicts: &[u8],
 ) -> Rendered
-    ensures { λ r. ⌜ Printed states (acceptedWith depth) (now (lower .entry)) (now (upper .entry)) (now (verdicts .entry)) (now (out .entry)) (now (out .exit)) r ⌝ }
+    ensures { λ r. ⌜ Printed states (acceptedWith depth)
+        (now (lower .entry)) (now (upper .entry)) (now (verdicts .entry)) (now (out .entry)) (now (out .exit)) r ⌝ }
 {
     if lower.len() < states {
         return Rendered::Short;

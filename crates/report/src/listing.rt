@@ -51,7 +51,8 @@ pub fn write_rows(
 ) -> usize
     requires { ⌜ Complete states (now lower) (now upper) (now verdicts) ⌝ }
     requires { ⌜ Room at (rows states depth (now lower) (now upper) (now verdicts)) (now out) ⌝ }
-    ensures { λ r. ⌜ Wrote at (rows states depth (now (lower .entry)) (now (upper .entry)) (now (verdicts .entry))) (now (out .entry)) (now (out .exit)) r ⌝ }
+    ensures { λ r. ⌜ Wrote at (rows states depth (now (lower .entry)) (now (upper .entry)) (now (verdicts .entry)))
+        (now (out .entry)) (now (out .exit)) r ⌝ }
 {
     let mut next = at;
     let mut i: usize = 0;

@@ -2,7 +2,7 @@
 use mathlib.Core.Path.{_≡_, refl, sym, ap, _∙_}
 use mathlib.Core.Bool.{true}
 use mathlib.Core.List.{List}
-use Prim.Native.Nat.{ℕ, _+_, _≤_, _<_}
+use Prim.Native.Nat.{ℕ, _≤_}
 use native.Mathlib.Omega.{arith}
 use lib.ListN.{length, take}
 use lib.Seq.{getD-take, length-take-le}
@@ -10,16 +10,15 @@ use Rattle.csl.specs.Text.{Text}
 use Rattle.csl.specs.Labels.{statesOf}
 use Rattle.csl.specs.Moves.{movesOf, movesLayout}
 use Rattle.csl.specs.Sheet.{sheetOf}
-use Rattle.csl.specs.Chain.{chainOf, topRate}
+use Rattle.csl.specs.Chain.{chainOf}
 use Rattle.numbers.specs.Filled.{Filled, Table, table-at}
 use Rattle.moves.specs.Words.{moveWord}
 use Rattle.labels.specs.Words.{stateWord}
-use Rattle.rate_matrix.specs.Words.{topOf, Lines}
+use Rattle.rate_matrix.specs.Words.{Lines}
 use Rattle.rate_matrix.specs.Shown.{Shows, top-shown}
 use Rattle.rate_matrix.specs.Stored.{Holds, shows-stored, sheet-lines}
 use Rattle.vectors.specs.Places.{marksFrom}
-use Rattle.vectors.specs.Prepared.{Prepared, PrepareAsked, Laid, prepared-kept}
-use Rattle.refusals.specs.Sheet.{dimensionsOf}
+use Rattle.vectors.specs.Prepared.{PrepareAsked, Laid, prepared-kept}
 use Rattle.refusals.specs.declared.sheet_tests.Dimensions.{Dimensions}
 use Rattle.sheet_words.specs.Stored.{MarksAsked, StoreAsked, Stored}
 

@@ -18,7 +18,8 @@ fn store_marks(labels: &[u8], names: usize, vectors: &mut [u64], n: usize)
 // A sheet's two texts into the lent words.
 pub fn store(moves: &[u8], labels: &[u8], sheet: Dimensions, words: &mut [u64], vectors: &mut [u64])
     requires { ⌜ StoreAsked (now moves) (now labels) sheet (now words) (now vectors) ⌝ }
-    ensures { λ _. ⌜ Stored (now (moves .entry)) (now (labels .entry)) (now (words .entry)) (now (words .exit)) (now (vectors .entry)) (now (vectors .exit)) ⌝ }
+    ensures { λ _. ⌜ Stored (now (moves .entry)) (now (labels .entry))
+        (now (words .entry)) (now (words .exit)) (now (vectors .entry)) (now (vectors .exit)) ⌝ }
 {
     let n = sheet.states;
     let m = sheet.moves;

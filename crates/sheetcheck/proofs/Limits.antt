@@ -8,7 +8,7 @@ use lib.ListN.{length}
 use lib.Dec.{leb}
 use borrow.Author.Tests.{leb-true, le-ltb}
 use Rattle.csl.specs.Text.{any}
-use Rattle.csl.specs.Limits.{billion, mostRateHours}
+use Rattle.csl.specs.Limits.{billion, mostNodes, mostRateHours}
 use Rattle.csl.specs.Formula.{Formula, always, label, negated, both, chance, Path, until, pathOf, Comparison, nodes, phasesPass, pathsPass}
 use Rattle.csl.specs.Chain.{Chain, topRate, load, depth}
 use Rattle.csl.specs.Path.{meaning}
@@ -27,7 +27,7 @@ module _ (j : Job) (p : Passed j) where
   none-short lent a b c d e f =
       let n : jobStates j ≤ 512 = p .sheet .sound .few-states in
       let m : length (jobMoves j) ≤ 4096 = p .sheet .sound .few-moves in
-      let k : nodes (jobFormula j) ≤ 64 = p .formula .fitting .few-nodes in
+      let k : nodes (jobFormula j) ≤ mostNodes = p .formula .fitting .few-nodes in
       simp (
         le-ltb (lent .lower) (jobStates j) (omega arith),
         le-ltb (lent .upper) (jobStates j) (omega arith),

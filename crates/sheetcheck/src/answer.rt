@@ -1,4 +1,6 @@
 // The text that is printed for a job.
+use limits::MOST_MOVES;
+use limits::MOST_STATES;
 use report::Rendered;
 use verdicts::Answer;
 ghost use mathlib.Core.Path.{_≡_};
@@ -8,6 +10,14 @@ ghost use Rattle.io.specs.Counts.{Counts};
 ghost use Rattle.verdicts.specs.Paper.{answerOf};
 ghost use Rattle.checker.specs.Job.{job};
 ghost use Rattle.sheetcheck.specs.Prints.{Answered, lengthOf, numberIn};
+
+// The lengths of vector words and mark bytes that are enough for every job.
+const VECTOR_WORDS: usize = limits::VECTOR_PLACES * MOST_STATES + limits::VECTOR_SPARE;
+
+const MARK_BYTES: usize = limits::MOST_NODES * MOST_STATES;
+
+// The length of a buffer that has room for every printed text.
+pub const TEXT_BYTES: usize = 32768;
 
 // What was written for a job.
 pub struct Written {
@@ -26,14 +36,15 @@ pub struct Written {
 pub fn write_answer(moves: &[u8], labels: &[u8], formula: &[u8], out: &mut [u8]) -> Written
     requires { ⌜ 32768 ≤ length (now out) ⌝ }
     ensures { λ r. ⌜ Counts (r .length) (now (out .exit)) ⌝ }
-    ensures answered { λ r. ⌜ Answered (job (now (moves .entry)) (now (labels .entry)) (now (formula .entry))) (now (out .entry)) (now (out .exit)) r ⌝ }
+    ensures answered { λ r. ⌜ Answered (job (now (moves .entry)) (now (labels .entry)) (now (formula .entry)))
+        (now (out .entry)) (now (out .exit)) r ⌝ }
 {
-    let mut lower = [0u32; 512];
-    let mut upper = [0u32; 512];
-    let mut verdicts = [0u8; 512];
-    let mut words = [0u64; 4096];
-    let mut vectors = [0u64; 5632];
-    let mut marks = [0u8; 32768];
+    let mut lower = [0u32; MOST_STATES];
+    let mut upper = [0u32; MOST_STATES];
+    let mut verdicts = [0u8; MOST_STATES];
+    let mut words = [0u64; MOST_MOVES];
+    let mut vectors = [0u64; VECTOR_WORDS];
+    let mut marks = [0u8; MARK_BYTES];
     let checked = checker::check(
         moves,
         labels,

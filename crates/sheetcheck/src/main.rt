@@ -2,6 +2,7 @@
 mod answer;
 mod text;
 
+use answer::TEXT_BYTES;
 use answer::write_answer;
 use libc::STDERR_FILENO;
 use libc::STDOUT_FILENO;
@@ -9,10 +10,10 @@ use text::read_text;
 
 // Each text has room for one byte more than its limit, so that a longer one is seen to be too long.
 fn main() {
-    let mut moves = [0u8; 61441];
-    let mut labels = [0u8; 61441];
-    let mut formula = [0u8; 513];
-    let mut out = [0u8; 32768];
+    let mut moves = [0u8; limits::SHEET_BYTES + 1];
+    let mut labels = [0u8; limits::SHEET_BYTES + 1];
+    let mut formula = [0u8; limits::FORMULA_BYTES + 1];
+    let mut out = [0u8; TEXT_BYTES];
     let m = read_text(b"moves.txt", &mut moves);
     let l = read_text(b"labels.txt", &mut labels);
     let f = read_text(b"formula.txt", &mut formula);

@@ -3,6 +3,8 @@ ghost use Rattle.io.specs.Counts.{Counts};
 
 // Reads the file of this name to the front of `text` and answers how many bytes that is; of a file that is longer it reads as much as `text`
 // holds. A file that cannot be opened counts as empty, and so does one that cannot be read to its end.
+//
+// Open is what the system's `read` puts into `text`, of which it promises nothing; so is how many bytes a file has.
 pub fn read_text(name: &[u8], text: &mut [u8]) -> usize
     ensures { λ r. ⌜ Counts r (now (text .exit)) ⌝ }
 {

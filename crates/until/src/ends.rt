@@ -8,7 +8,9 @@ ghost use Rattle.until.specs.Asked.{PointAsked, Pointed, StillAsked, Sti
 
 // The interval at a state whose operands have these verdicts: fixed where the second is yes or both are no, else from lower to upper.
 fn pointed(first: Verdict, second: Verdict, lower: u32, upper: u32) -> Interval
-    ensures { λ r. ⌜ r ≡ interval (pointedEnd (verdictOf first) (verdictOf second) lower) (pointedEnd (verdictOf first) (verdictOf second) upper) ⌝ }
+    ensures { λ r. ⌜ r ≡ interval
+        (pointedEnd (verdictOf first) (verdictOf second) lower)
+        (pointedEnd (verdictOf first) (verdictOf second) upper) ⌝ }
 {
     match second {
         Verdict::Yes => Interval::CERTAIN,

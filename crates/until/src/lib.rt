@@ -17,7 +17,8 @@ fn both_ends(
     last: usize,
 )
     requires { ⌜ BothAsked (now moves) (now words) (now first) (now second) n q last ⌝ }
-    ensures { λ _. ⌜ Both (now (moves .entry)) (now (first .entry)) (now (second .entry)) n q last (now (words .entry)) (now (words .exit)) ⌝ }
+    ensures { λ _. ⌜ Both (now (moves .entry)) (now (first .entry)) (now (second .entry)) n q last
+        (now (words .entry)) (now (words .exit)) ⌝ }
 {
     reading::read_low(moves, words, first, second, n, q, last);
     phase::lower_ends(words, n);
@@ -38,7 +39,8 @@ fn summed(
     depth: usize,
 )
     requires { ⌜ SummedAsked (now moves) (now words) (now first) (now second) n q a depth ⌝ }
-    ensures { λ _. ⌜ Summed (now (moves .entry)) (now (first .entry)) (now (second .entry)) n q a depth (now (words .entry)) (now (words .exit)) ⌝ }
+    ensures { λ _. ⌜ Summed (now (moves .entry)) (now (first .entry)) (now (second .entry)) n q a depth
+        (now (words .entry)) (now (words .exit)) ⌝ }
 {
     phase::weigh(words, n, a, depth);
     let last = phase::last_step(words, n, depth);
@@ -57,7 +59,8 @@ pub fn until(
     t: u64,
 ) -> usize
     requires { ⌜ UntilAsked (now moves) (now words) (now first) (now second) n q t ⌝ }
-    ensures { λ r. ⌜ Until (now (moves .entry)) (now (first .entry)) (now (second .entry)) n q t (now (words .entry)) (now (words .exit)) r ⌝ }
+    ensures { λ r. ⌜ Until (now (moves .entry)) (now (first .entry)) (now (second .entry)) n q t
+        (now (words .entry)) (now (words .exit)) r ⌝ }
 {
     let a = q * t;
     let depth = phase::depth_of(a);

@@ -80,7 +80,8 @@ pub fn read_low(
     last: usize,
 )
     requires { ⌜ ReadAsked (now moves) (now words) (now first) (now second) n q last ⌝ }
-    ensures { λ _. ⌜ Read (now (moves .entry)) (now (first .entry)) (now (second .entry)) n q last false (now (words .entry)) (now (words .exit)) ⌝ }
+    ensures { λ _. ⌜ Read (now (moves .entry)) (now (first .entry)) (now (second .entry)) n q last false
+        (now (words .entry)) (now (words .exit)) ⌝ }
 {
     lay(words, first, second, n, q, false);
     phase::begin(words, n);
@@ -116,7 +117,8 @@ pub fn read_high(
     last: usize,
 )
     requires { ⌜ HighAsked (now moves) (now words) (now first) (now second) n q last ⌝ }
-    ensures { λ _. ⌜ Read (now (moves .entry)) (now (first .entry)) (now (second .entry)) n q last true (now (words .entry)) (now (words .exit)) ⌝ }
+    ensures { λ _. ⌜ Read (now (moves .entry)) (now (first .entry)) (now (second .entry)) n q last true
+        (now (words .entry)) (now (words .exit)) ⌝ }
 {
     if decided(first, second, n) {
         return;

@@ -3,7 +3,6 @@ use mathlib.Core.Path.{_≡_, refl, _∙_}
 use mathlib.Core.List.{List}
 use Prim.Native.Nat.{ℕ, _+_, _*_, _-_, _≤_, _<_}
 use native.Mathlib.Omega.{arith}
-use lib.ListN.{length}
 use Rattle.numbers.specs.Filled.{Filled, filled-at}
 use Rattle.rate_matrix.specs.Words.{at, Rows}
 use Rattle.vectors.specs.Places.{marksFrom}

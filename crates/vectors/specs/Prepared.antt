@@ -6,7 +6,7 @@ use native.Mathlib.Omega.{arith}
 use lib.ListN.{length}
 use Rattle.csl.specs.Limits.{mostStates, mostRate}
 use Rattle.csl.specs.Chain.{greatest}
-use Rattle.csl.specs.Laws.Sum.{greatest-le}
+use Rattle.numbers.specs.Sum.{greatest-le}
 use Rattle.rate_matrix.specs.Words.{at, exitOf, topOf, rowOf, Lines}
 use Rattle.vectors.specs.Places.{valuesFrom, exitsFrom, weightsFrom, marksFrom, vectorLength, exitAt, endAt}
 

@@ -62,7 +62,8 @@ pub fn negate(row: &mut [u8], n: usize)
 // `&` of the row itself and the next one.
 pub fn join(rows: &mut [u8], n: usize)
     requires { ⌜ n + n ≤ length (now rows) ⌝ }
-    ensures { λ _. ⌜ RowIs (λ s. joinedByte (getD (now (rows .entry)) s 0) (getD (now (rows .entry)) (n + s) 0)) n (now (rows .entry)) (now (rows .exit)) ⌝ }
+    ensures { λ _. ⌜ RowIs (λ s. joinedByte (getD (now (rows .entry)) s 0) (getD (now (rows .entry)) (n + s) 0)) n
+        (now (rows .entry)) (now (rows .exit)) ⌝ }
 {
     let mut s: usize = 0;
     while s < n {
@@ -75,7 +76,9 @@ pub fn join(rows: &mut [u8], n: usize)
 pub fn judge(words: &[u64], comparison: Comparison, threshold: u32, row: &mut [u8], n: usize)
     requires { ⌜ EndsIn n (now words) ⌝ }
     requires { ⌜ n ≤ length (now row) ⌝ }
-    ensures { λ _. ⌜ RowIs (λ s. judgedByte (comparisonOf comparison) threshold (getD (now (words .entry)) s 0) (getD (now (words .entry)) (n + s) 0)) n (now (row .entry)) (now (row .exit)) ⌝ }
+    ensures { λ _. ⌜ RowIs
+        (λ s. judgedByte (comparisonOf comparison) threshold (getD (now (words .entry)) s 0) (getD (now (words .entry)) (n + s) 0)) n
+        (now (row .entry)) (now (row .exit)) ⌝ }
 {
     let mut s: usize = 0;
     while s < n {

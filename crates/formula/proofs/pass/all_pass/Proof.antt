@@ -5,13 +5,14 @@ use Prim.Native.Nat.{_≤_, _-_}
 use mathlib.Core.Path.{_≡_, sym, _∙_}
 use borrow.Author.Tests.{not-true, not-false}
 use mathlib.Core.Bool.{true}
+use Rattle.csl.specs.Limits.{mostNodes}
 use Rattle.formula.specs.Pass.{allBelow, placePassed}
 use Rattle.formula.proofs.PassLaw.{below-none, below-next, below-fails}
 use Rattle.formula.proofs.pass.all_pass.Statement.{statement}
 use Rattle.formula.proofs.pass.all_pass.Tie as tie
 
 abbrev Inv-loop : tie.InvT-loop
-Inv-loop test nodes n i₀ i = (i ≤ n) × (n ≤ 64) × (allBelow (placePassed test (nodes .nodes)) i ≡ true)
+Inv-loop test nodes n i₀ i = (i ≤ n) × (n ≤ mostNodes) × (allBelow (placePassed test (nodes .nodes)) i ≡ true)
 
 abbrev μ-loop : tie.MeasureT-loop
 μ-loop test nodes n i₀ i = n - i

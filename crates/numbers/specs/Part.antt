@@ -1,12 +1,13 @@
--- A slice whose part behind its first n entries was lent, and came back. Assumes nothing.
+-- A list whose part behind its first n entries was lent, and came back. Assumes nothing.
 use mathlib.Core.Path.{_≡_, ap, sym, _∙_}
 use mathlib.Core.List.{List, [], _++_, append-nil}
 use Prim.Native.Nat.{ℕ, _+_, _-_, _≤_}
 use native.Mathlib.Omega.{arith}
 use lib.ListN.{length, take, drop, length-take, length-drop, length-append, drop-of-length-le, List·getD-append}
 use lib.Seq.{take-all, getD-take, getD-drop, getD-append-add}
 use Rattle.numbers.specs.Filled.{at, Filled, Table, table-at, table-rest}
 
+-- the part, and the list with ys in its place
 abbrev pub rest : List ℕ → ℕ → List ℕ
 rest xs n = take (length xs - n) (drop n xs)
 
