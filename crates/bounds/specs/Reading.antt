@@ -21,7 +21,8 @@ use Rattle.bounds.specs.SummedEnds.{Bounds, ends-summed}
 use Rattle.bounds.specs.Rounded.{rounds-run, rounds-same, rounds-most}
 use Rattle.bounds.specs.PhaseEnd.{PhaseEnds, phase-ends}
 
-bit-most : (b : Bool) → bit b ≤ 1
+-- a start of until is 0 or 1
+pub bit-most : (b : Bool) → bit b ≤ 1
 bit-most true = omega arith
 bit-most false = omega arith
 

@@ -46,7 +46,7 @@ module _ (j : Job) (before : Buffers (List ℕ)) (a : Answer) (after : Buffers (
   accepted-only-then d h = proved.accepted-then j before a after finished d h
 
 -- ".. rate, depth and labels exact": an accepted job is decided over the chain of its texts, at that chain's greatest exit rate. (That the
--- code's q is this one is the field `top` of what `prepare::prepare` promises.)
+-- code's q is this one is the field `q` of what `refusals::test_sheet` promises: `dimensionsOf` of refusals/specs/Sheet.)
 pub decided-at-its-rate : (j : Job) (lent : Buffers ℕ) → refusal j lent ≡ none
     → outcome j lent ≡ accepted (jobChain j) (jobFormula j) (topRate (jobChain j)) (depthOf (jobChain j) (jobFormula j))
 decided-at-its-rate j lent h = proved.outcome-by j lent h

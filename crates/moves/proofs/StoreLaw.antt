@@ -17,7 +17,8 @@ use Rattle.texts.specs.LineAt.{lineAt, isEndedAt}
 use Rattle.texts.specs.Lines.{linesPass, nextLine, lines-are, lines-end, pass-more, pass-first}
 use Rattle.texts.specs.Places.{drop-here, drop-none}
 use Rattle.numbers.specs.Filled.{Table, table-none, table-more, table-done}
-use Rattle.moves.specs.Words.{noMove, moveWord, WordAt}
+use Rattle.rate_matrix.specs.ByPlace.{noMove}
+use Rattle.moves.specs.Words.{moveWord, WordAt}
 
 -- j words are stored, and the text t holds the lines of the rest
 pub record Storing (s : Text) (w₀ w : List ℕ) (t : Text) (j : ℕ) : Type 0 where

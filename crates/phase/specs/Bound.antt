@@ -6,18 +6,12 @@ use Prim.Native.Nat.{ℕ, zero, suc, _*_, _-_, _/_, _≤_, _<_}
 use native.Mathlib.Omega.{arith}
 use native.Mathlib.Nat.{sub-add-cancel, div-le-of-le-mul}
 use lib.Dec.{eqb}
-use Rattle.csl.specs.Phase.{bit}
 use Rattle.numbers.specs.Hint.{le-times, eq-times}
 use Rattle.numbers.specs.Sum.{sum-le, sum-scale}
 use Rattle.bounds.specs.Unit.{one}
 use Rattle.rate_matrix.specs.Words.{fromOf, toOf, rateOf, outOf, exitOf, pull, flow}
 use Rattle.rate_matrix.specs.Lines.{flow-cong}
 use Rattle.phase.specs.Value.{mixed, next, runOf}
-
--- a start of until is 0 or 1
-pub bit-most : (b : Bool) → bit b ≤ 1
-bit-most true = omega arith
-bit-most false = omega arith
 
 pull-most : (t : Bool) (r x o : ℕ) → x ≤ o → cond t (r * x) 0 ≤ cond t r 0 * o
 pull-most true r x o h = omega (arith, le-times r h)

@@ -11,6 +11,7 @@ use Rattle.csl.specs.Moves.{Move, isBefore, isRising, rateIn, ratesOut}
 use Rattle.csl.specs.Chain.{sumTo}
 use Rattle.accepted.specs.Rates.{Within}
 
+-- what a place past the last move shows
 abbrev pub noMove : Move
 noMove = record { from = 0; to = 0; rate = 0 }
 

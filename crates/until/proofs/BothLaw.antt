@@ -12,10 +12,11 @@ use Rattle.numbers.specs.Filled.{Filled, table-at}
 use Rattle.numbers.specs.Sum.{sum-cong}
 use Rattle.bounds.specs.Unit.{one, scale, grain, part}
 use Rattle.bounds.specs.StepValues.{pointed}
+use Rattle.bounds.specs.Reading.{bit-most}
 use Rattle.vectors.specs.Places.{at, totalAt, numberAt, sumAt, weightAt, totalIn}
 use Rattle.vectors.specs.Prepared.{Rates, rates-kept, rates-slow}
 use Rattle.phase.specs.Value.{startOf, heldOf, valueOf}
-use Rattle.phase.specs.Bound.{bit-most, run-most}
+use Rattle.phase.specs.Bound.{run-most}
 use Rattle.phase.specs.Load.{LightAsked}
 use Rattle.phase.specs.Ends.{wholeOf, LowerAsked, lowerAt, upperFrom, UpperAsked, upperAt}
 use Rattle.until.specs.Reading.{verdicts, readAs, readPhase, lowPhase, highPhase}

@@ -12,11 +12,12 @@ use Rattle.csl.specs.Phase.{bit}
 use Rattle.csl.specs.Verdicts.{asNo, asYes}
 use Rattle.numbers.specs.Sum.{sum-cong}
 use Rattle.bounds.specs.Unit.{one, part}
+use Rattle.bounds.specs.Reading.{bit-most}
 use Rattle.rate_matrix.specs.Words.{exitOf}
 use Rattle.vectors.specs.Places.{at, weightsFrom, valueAt, nextAt, stayAt, heldAt, exitAt, weightAt}
 use Rattle.vectors.specs.Prepared.{rates-kept, rates-slow, rates-small}
 use Rattle.phase.specs.Value.{heldOf, stayOf, startOf, valueOf}
-use Rattle.phase.specs.Bound.{bit-most, run-cong}
+use Rattle.phase.specs.Bound.{run-cong}
 use Rattle.phase.specs.Steps.{BeginAsked, Begun}
 use Rattle.until.specs.Reading.{verdicts, readAs, readPhase, lowPhase, highPhase}
 use Rattle.until.specs.Run.{RunAsked, runAt, Ran}

@@ -1,12 +1,11 @@
 -- What "prepared" means of the lent vector words, and how they come to be so. Assumes nothing.
 use mathlib.Core.Path.{_≡_, _∙_}
 use mathlib.Core.List.{List}
-use Prim.Native.Nat.{ℕ, zero, suc, _≤_, _<_, max}
+use Prim.Native.Nat.{ℕ, suc, _≤_, _<_}
 use native.Mathlib.Omega.{arith}
 use lib.ListN.{length}
 use Rattle.csl.specs.Limits.{mostStates, mostRate}
-use Rattle.csl.specs.Chain.{greatest}
-use Rattle.numbers.specs.Sum.{greatest-le}
+use Rattle.numbers.specs.Sum.{greatest-le, greatest-most}
 use Rattle.rate_matrix.specs.Words.{at, exitOf, topOf, rowOf, Lines}
 use Rattle.vectors.specs.Places.{valuesFrom, exitsFrom, weightsFrom, marksFrom, vectorLength, exitAt, endAt}
 
@@ -51,15 +50,6 @@ prepared-kept p e h =
       };
     }
 
--- the greatest of numbers within the limit
-greatest-most : (f : ℕ → ℕ) (n : ℕ) → ((s : ℕ) → s < n → f s ≤ mostRate) → greatest f n ≤ mostRate
-unfolding greatest
-greatest-most f zero h = omega arith
-greatest-most f (suc n) h = max-most (greatest f n) (f n) (greatest-most f n (λ s l. h s (omega arith))) (h n (omega arith))
-  where
-    max-most : (x y : ℕ) → x ≤ mostRate → y ≤ mostRate → max x y ≤ mostRate
-    max-most x y a b = omega arith
-
 -- no exit rate is over q, and q is not over the limit
 module _ {mv l : List ℕ} {n q : ℕ} (p : Rates mv l n q) where
   pub rates-slow : (s : ℕ) → s < n → exitOf mv (length mv) s ≤ q
@@ -68,7 +58,7 @@ module _ {mv l : List ℕ} {n q : ℕ} (p : Rates mv l n q) where
 
   pub rates-small : q ≤ mostRate
   unfolding topOf
-  rates-small = rw (p .top) (greatest-most (exitOf mv (length mv)) n (p .lines .limit))
+  rates-small = rw (p .top) (greatest-most (exitOf mv (length mv)) mostRate n (p .lines .limit))
 
 -- move words, and room for what is made of them
 pub record PrepareAsked (mv l : List ℕ) (n : ℕ) : Type 0 where
