@@ -1,5 +1,5 @@
 // The checker: three texts and the lent buffers in, one finished report or one refusal number out.
-mod report;
+mod passed;
 
 use refusals::Dimensions;
 use refusals::Lengths;
@@ -71,7 +71,7 @@ fn check_formula(
             if refusals::too_short(lent, sheet, nodes.count) {
                 return refused(15);
             }
-            let depth = report::report(
+            let depth = passed::report(
                 sheet,
                 nodes,
                 moves,

@@ -2,8 +2,10 @@
 use mathlib.Core.Path.{_≡_, refl, sym, _∙_}
 use Prim.Native.Nat.{ℕ, _+_, _-_, _≤_, _<_}
 use native.Mathlib.Omega.{arith}
-use mathlib.Core.Bool.{Bool, true, false, cond, _&&_, and-eq-true-iff}
+use mathlib.Core.Bool.{Bool, true, false, cond, not, _&&_, or-false, and-eq-true-iff}
 use lib.ListN.{length, take, drop, length-drop}
+use lib.Dec.{leb, ltb, eqb}
+use borrow.Author.Tests.{lt-leb, le-ltb, ltb-true, leb-true, not-true}
 use Rattle.csl.specs.Text.{Text}
 use Rattle.csl.specs.Limits.{sheetBytes}
 use Rattle.csl.specs.Line.{lineFeed}
@@ -13,12 +15,13 @@ use Rattle.texts.specs.Cut.{rest-is}
 use Rattle.texts.specs.LineAt.{lineAt, isEndedAt}
 use Rattle.texts.specs.Lines.{lines-are, lines-end, pass-more, pass-not, pass-end}
 use Rattle.moves.specs.Line.{moveAt, lineOf, LineFits}
-use Rattle.moves.specs.Totals.{TotalsWithin}
-use Rattle.moves.specs.Tally.{begun, added, Addable, tallied, talliedFrom}
+use Rattle.moves.specs.Totals.{totalsAdded, TotalsWithin}
+use Rattle.moves.specs.Tally.{begun, placeIn, added, Addable, tallied, talliedFrom}
 use Rattle.moves.specs.Facts.{bare, broken}
 use Rattle.moves.specs.declared.lines.Line.{Line}
 use Rattle.moves.specs.declared.lines.Line.the-variants.{Move, Bad}
 use Rattle.moves.specs.declared.tally.Tally.{Tally}
+use Rattle.moves.specs.declared.totals.Totals.{Totals}
 use Rattle.moves.specs.declared.tally.Tallied.the-variants.{Lines, Broken}
 use Rattle.moves.proofs.TotalsLaw.{totals-begin, totals-fit, totals-go-on}
 
@@ -26,6 +29,24 @@ pub unended-is : (b : Bool)
     → record { layout = b; head = false; count = 0; strange = false; own = false; rising = b; rates = b; top = 0 } ≡ cond b bare broken
 unended-is true = refl
 unended-is false = refl
+
+-- a line of known states, not its own, above the one before it, tells nothing but its rate
+pub plain-line : (n : ℕ) (a : Tally) (from to rate : ℕ) {x : Totals} → x ≡ totalsAdded (a .totals) from rate
+    → from < n → ltb to n ≡ true → not (eqb from to) ≡ true → leb (a .next) (placeIn from to) ≡ true
+    → record { count = a .count + 1; strange = a .strange; own = a .own; falling = a .falling; next = placeIn from to + 1; totals = x }
+    ≡ added n a from to rate
+plain-line n a from to rate e h i j k =
+    rw (
+      e,
+      lt-leb n from h,
+      lt-leb n to (ltb-true to n i),
+      not-true (eqb from to) j,
+      le-ltb (placeIn from to) (a .next) (leb-true (a .next) (placeIn from to) k),
+      or-false (a .strange),
+      or-false (a .own),
+      or-false (a .falling),
+    )
+    (rw (or-false (a .strange)))
 
 -- what a line that was read says
 record Told (t : Text) (from to rate used : ℕ) : Type 0 where

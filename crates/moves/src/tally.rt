@@ -34,7 +34,7 @@ impl Tally {
         }
     }
 
-    // One line more.
+    // One line more. Most lines have nothing to tell but their rate, and are done with first.
     fn add(self, states: u64, from: u64, to: u64, rate: u64) -> Tally
         requires { ⌜ Addable (self .count) (self .totals) from to rate ⌝ }
         ensures { λ r. ⌜ r ≡ added states self from to rate ⌝ }
@@ -42,12 +42,24 @@ impl Tally {
         let place = from * 1073741824 + to;
         let before = self.totals;
         let totals = before.add(from, rate);
+        let count = self.count + 1;
+        let next = place + 1;
+        if from < states && to < states && from != to && self.next <= place {
+            return Tally {
+                count: count,
+                strange: self.strange,
+                own: self.own,
+                falling: self.falling,
+                next: next,
+                totals: totals,
+            };
+        }
         Tally {
-            count: self.count + 1,
+            count: count,
             strange: self.strange | (states <= from) | (states <= to),
             own: self.own | (from == to),
             falling: self.falling | (place < self.next),
-            next: place + 1,
+            next: next,
             totals: totals,
         }
     }

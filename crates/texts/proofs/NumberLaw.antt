@@ -61,7 +61,7 @@ module _ {s : Text} {v n : ℕ} (most : ℕ) (c : Counting s v n) where
   unfolding numberAt isNumber
   number-long h k =
       let m : most ≤ n = omega (arith, digit-within s n h) in
-      let l : n + 1 ≤ length (digitRun s) = omega (arith, one-more c h refl .length-is) in
+      let l : n + 1 ≤ length (digitRun s) = omega (arith, one-more c h .length-is) in
       rw (run-digits s, le-leb 1 (length (digitRun s)) (omega arith), lt-leb (length (digitRun s)) most (omega arith))
 
 -- a test on an answer that is known

@@ -57,13 +57,13 @@ run-ends (b ∷ s) zero h = rw h
 run-ends (b ∷ s) (suc i) h = run-ends s i h
 
 module _ {s : Text} {value used : ℕ} (c : Counting s value used) where
-  pub one-more : {digit : ℕ} → isDigit (getD s used 0) ≡ true → digit ≡ getD s used 0 - 48 → Counting s (value * 10 + digit) (used + 1)
+  pub one-more : isDigit (getD s used 0) ≡ true → Counting s (value * 10 + (getD s used 0 - 48)) (used + 1)
   unfolding valueFrom
-  one-more h e =
+  one-more h =
       let d = digit-range (getD s used 0) h in
       record {
         length-is = omega (arith, c .length-is, ap length (run-more s used h));
-        value-is = rw e (rw (run-more s used h) at (c .value-is));
+        value-is = rw (run-more s used h) at (c .value-is);
         small = rw (add-one used, pow-suc 10 used) (omega (arith, c .small));
       }
 

@@ -12,18 +12,16 @@ pub enum Num {
     Bad,
 }
 
-// A byte in 64 bits.
-pub fn wide(x: u8) -> u64
-    ensures { λ r. ⌜ r ≡ x ⌝ }
-{
-    x as u64
-}
+// The bytes of the digits 0 and 9, in 64 bits: a digit is tested and counted in the size of the number that it becomes part of.
+pub const ZERO: u64 = b'0' as u64;
 
-// Whether a byte is a digit.
-pub fn is_digit(b: u8) -> bool
+const NINE: u64 = b'9' as u64;
+
+// Whether a byte, in 64 bits, is a digit.
+pub fn is_digit(b: u64) -> bool
     ensures { λ r. ⌜ r ≡ isDigit b ⌝ }
 {
-    b'0' <= b && b <= b'9'
+    ZERO <= b && b <= NINE
 }
 
 // The lesser of two lengths.
@@ -40,7 +38,7 @@ fn digit_at(s: &[u8], i: usize) -> bool
     if s.len() <= i {
         return false;
     }
-    is_digit(s[i])
+    is_digit(s[i] as u64)
 }
 
 // The number that the `used` digits at the start of s spell: none without a digit, or where a 0 leads another digit.
@@ -67,11 +65,11 @@ pub fn number(s: &[u8], most: usize) -> Num
     let mut value: u64 = 0;
     let mut used: usize = 0;
     while used < end {
-        let b = s[used];
+        let b = s[used] as u64;
         if !is_digit(b) {
             return settle(s, value, used);
         }
-        value = value * 10 + wide(b - b'0');
+        value = value * 10 + (b - ZERO);
         used += 1;
     }
     if digit_at(s, used) {

@@ -1,8 +1,8 @@
 // The fields of a line, at the start of what is left of a sheet text: a number, and marks.
 use crate::digits::Num;
+use crate::digits::ZERO;
 use crate::digits::is_digit;
 use crate::digits::number;
-use crate::digits::wide;
 ghost use mathlib.Core.Path.{_≡_};
 ghost use Prim.Native.Nat.{_≤_, _*_};
 ghost use mathlib.Core.Bool.{cond};
@@ -43,8 +43,8 @@ pub fn known_field(t: &[u8]) -> Known
 {
     let mut value: u64 = 0;
     let mut used: usize = 0;
-    while is_digit(t[used]) {
-        value = value * 10 + wide(t[used] - b'0');
+    while is_digit(t[used] as u64) {
+        value = value * 10 + (t[used] as u64 - ZERO);
         used += 1;
     }
     Known {

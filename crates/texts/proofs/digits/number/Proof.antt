@@ -24,6 +24,9 @@ loop-holds c = (search needs, none-counted _)
 shared-slice-read-b : tie.Need-shared-slice-read-b Inv-loop μ-loop
 shared-slice-read-b c = search needs
 
+cast-b : tie.Need-cast-b Inv-loop μ-loop
+cast-b c = omega (arith, c .shared-slice-known2 .given (c .before .before .loop .used))
+
 is-digit-requires : tie.Need-is-digit-requires Inv-loop μ-loop
 is-digit-requires c κs = search needs
 
@@ -39,15 +42,12 @@ returns c =
 mul-value : tie.Need-mul-value Inv-loop μ-loop
 mul-value c = omega (arith, fits (c .before .before .before .before .loop .inv .1) 10 (omega arith))
 
-sub-wide : tie.Need-sub-wide Inv-loop μ-loop
-sub-wide c = digit-range _ (held (c .before .is-digit .ensures) (c .if1 .left)) .0
-
-wide-requires : tie.Need-wide-requires Inv-loop μ-loop
-wide-requires c κs = search needs
+sub-value : tie.Need-sub-value Inv-loop μ-loop
+sub-value c = digit-range _ (held (c .before .is-digit .ensures) (c .if1 .left)) .0
 
 add-value : tie.Need-add-value Inv-loop μ-loop
 add-value c =
-    let n = one-more (c .before .before .before .before .before .loop .inv .1) (search held) (c .wide .ensures) in
+    let n = one-more (c .before .before .before .before .loop .inv .1) (search held) in
     omega (arith, fits n 10 (omega arith))
 
 add-used : tie.Need-add-used Inv-loop μ-loop
@@ -85,12 +85,12 @@ number-spec =
     lesser-requires
     loop-holds
     shared-slice-read-b
+    cast-b
     is-digit-requires
     settle-requires
     returns
     mul-value
-    sub-wide
-    wide-requires
+    sub-value
     add-value
     add-used
     loop-less

@@ -20,25 +20,28 @@ loop-holds c = none-counted _
 shared-slice-read-is-digit : tie.Need-shared-slice-read-is-digit Inv-loop μ-loop
 shared-slice-read-is-digit c = search needs
 
+cast-is-digit : tie.Need-cast-is-digit Inv-loop μ-loop
+cast-is-digit c = omega (arith, c .shared-slice-known2 .given (c .before .loop .used))
+
 is-digit-requires : tie.Need-is-digit-requires Inv-loop μ-loop
 is-digit-requires c κs = search needs
 
 mul-value : tie.Need-mul-value Inv-loop μ-loop
 mul-value c = omega (arith, fits (c .before .before .before .loop .inv) 9 (omega arith))
 
-shared-slice-read-wide : tie.Need-shared-slice-read-wide Inv-loop μ-loop
-shared-slice-read-wide c = search needs
+shared-slice-read-value : tie.Need-shared-slice-read-value Inv-loop μ-loop
+shared-slice-read-value c = search needs
 
-sub-wide : tie.Need-sub-wide Inv-loop μ-loop
-sub-wide c = digit-range _ (sym (c .before .before .is-digit .ensures) ∙ c .before .if1 .taken) .0
+cast-value : tie.Need-cast-value Inv-loop μ-loop
+cast-value c = omega (arith, c .shared-slice-known3 .given (c .before .before .before .before .loop .used))
 
-wide-requires : tie.Need-wide-requires Inv-loop μ-loop
-wide-requires c κs = search needs
+sub-value : tie.Need-sub-value Inv-loop μ-loop
+sub-value c = digit-range _ (sym (c .before .before .is-digit .ensures) ∙ c .before .if1 .taken) .0
 
 add-value : tie.Need-add-value Inv-loop μ-loop
 add-value c =
-    let e = sym (c .before .before .before .is-digit .ensures) ∙ c .before .before .if1 .taken in
-    let n = one-more (c .before .before .before .before .before .loop .inv) e (c .wide .ensures) in
+    let e = sym (c .before .before .is-digit .ensures) ∙ c .before .if1 .taken in
+    let n = one-more (c .before .before .before .before .loop .inv) e in
     omega (arith, fits n 9 (omega arith))
 
 add-used : tie.Need-add-used Inv-loop μ-loop
@@ -49,8 +52,7 @@ loop-less c = search needs
 
 loop-again : tie.Need-loop-again Inv-loop μ-loop
 loop-again c =
-    let e = sym (c .before .before .before .is-digit .ensures) ∙ c .before .before .if1 .taken in
-    one-more (c .before .before .before .before .before .loop .inv) e (c .wide .ensures)
+    one-more (c .before .before .before .before .loop .inv) (sym (c .before .before .is-digit .ensures) ∙ c .before .if1 .taken)
 
 add-t11 : tie.Need-add-t11 Inv-loop μ-loop
 add-t11 c = search needs
@@ -73,11 +75,12 @@ known-field-spec =
     μ-loop
     loop-holds
     shared-slice-read-is-digit
+    cast-is-digit
     is-digit-requires
     mul-value
-    shared-slice-read-wide
-    sub-wide
-    wide-requires
+    shared-slice-read-value
+    cast-value
+    sub-value
     add-value
     add-used
     loop-less

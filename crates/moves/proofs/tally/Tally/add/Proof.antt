@@ -1,5 +1,6 @@
--- `add` meets its contract. Assumes nothing.
+-- `add` meets its contract, by a law of `ReadLaw`. Assumes nothing.
 use borrow.Author.Needs.{needs}
+use Rattle.moves.proofs.ReadLaw.{plain-line}
 use Rattle.moves.proofs.tally.Tally.add.Statement.{statement}
 use Rattle.moves.proofs.tally.Tally.add.Tie as tie
 
@@ -12,14 +13,17 @@ add-place c = search needs
 add-requires : tie.Need-add-requires
 add-requires c κs = search needs
 
-add-t10 : tie.Need-add-t10
-add-t10 c = search needs
+add-count : tie.Need-add-count
+add-count c = search needs
 
-add-t9 : tie.Need-add-t9
-add-t9 c = search needs
+add-next : tie.Need-add-next
+add-next c = search needs
 
 returns : tie.Need-returns
-returns c = rw (c .before .before .before .before .before .add .ensures)
+returns c = search (needs, plain-line)
+
+returns-2 : tie.Need-returns-2
+returns-2 c = rw (c .before .before .before .before .before .before .add .ensures)
 
 pub add-spec : {M : Type 1} → statement M
-add-spec = tie.close (tie.spec mul-place add-place add-requires add-t10 add-t9 returns)
+add-spec = tie.close (tie.spec mul-place add-place add-requires add-count add-next returns returns-2)

@@ -1,8 +1,8 @@
 -- `clear_all` meets its contract. Assumes nothing.
 use Rattle.checker.proofs.ReportLaw.{all-cleared, rows-fit}
 use borrow.Author.Needs.{needs}
-use Rattle.checker.proofs.report.clear_all.Statement.{statement}
-use Rattle.checker.proofs.report.clear_all.Tie as tie
+use Rattle.checker.proofs.passed.clear_all.Statement.{statement}
+use Rattle.checker.proofs.passed.clear_all.Tie as tie
 
 length-requires : tie.Need-length-requires
 length-requires c κs = search needs

@@ -1,8 +1,8 @@
 -- `decide_all` meets its contract. Assumes nothing.
 use Rattle.checker.proofs.ReportLaw.{decide-laws, store-asked, some, decide-asked, all-decided}
 use borrow.Author.Needs.{needs}
-use Rattle.checker.proofs.report.decide_all.Statement.{statement}
-use Rattle.checker.proofs.report.decide_all.Tie as tie
+use Rattle.checker.proofs.passed.decide_all.Statement.{statement}
+use Rattle.checker.proofs.passed.decide_all.Tie as tie
 
 sub-root : tie.Need-sub-root
 sub-root c = search (needs, some)

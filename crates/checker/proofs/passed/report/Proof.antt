@@ -1,8 +1,8 @@
 -- `report` meets its contract. Assumes nothing.
 use Rattle.checker.proofs.ReportLaw.{decide-all-asked, write-asked, clear-all-asked, left}
 use borrow.Author.Needs.{needs}
-use Rattle.checker.proofs.report.report.Statement.{statement}
-use Rattle.checker.proofs.report.report.Tie as tie
+use Rattle.checker.proofs.passed.report.Statement.{statement}
+use Rattle.checker.proofs.passed.report.Tie as tie
 
 -- from the place after a call back to the place after the call before it
 abbrev before-decided : tie.After-decide-all → tie.Start
