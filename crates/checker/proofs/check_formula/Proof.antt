@@ -4,9 +4,18 @@ use borrow.Author.Needs.{needs}
 use Rattle.checker.proofs.check_formula.Statement.{statement}
 use Rattle.checker.proofs.check_formula.Tie as tie
 
--- from the place after the formula was tested back to the function's entry
-abbrev entry-of-tested : tie.After-test-formula → tie.Start
-entry-of-tested c = c .before .before .before .before .before .before .before .before .before .before .before
+-- from a place back to one before it: the formula tested, the lengths measured and found enough, the report made
+abbrev before-tested : tie.After-test-formula → tie.Start
+before-tested c = c .before .before .before .before .before .before .before .before .before .before .before
+
+abbrev before-measured : tie.After-too-short → tie.After-test-formula
+before-measured c = c .before .before .before .before
+
+abbrev before-reported : tie.After-report-arg6 → tie.Else1
+before-reported c = c .before .before .before .before .before .before
+
+abbrev before-returned : tie.After-slice-known12 → tie.After-report
+before-returned c = c .before .before .before .before .before .before .before .before .before .before .before .before
 
 names-part-requires : tie.Need-names-part-requires
 names-part-requires c κs = search line-right
@@ -26,25 +35,29 @@ enum-told c = search needs
 too-short-requires : tie.Need-too-short-requires
 too-short-requires c κs =
     let read = c .before .before .before in
-    search (may-measure _ _ (entry-of-tested read .pre) (read .before .names-part .ensures) (read .test-formula .ensures .0) (read .test-formula .ensures .1))
+    search (may-measure _ _ (before-tested read .pre) (read .before .names-part .ensures) (read .test-formula .ensures .0) (read .test-formula .ensures .1))
 
 refused-requires-2 : tie.Need-refused-requires-2
 refused-requires-2 c κs = search needs
 
 returns : tie.Need-returns
 returns c =
-    let read = c .before .before .before .before .before .before in
-    short-turned _ _ (entry-of-tested read .pre) (read .before .names-part .ensures) (read .test-formula .ensures .0) (read .test-formula .ensures .1) (c .before .before .before .enum-told .given .1) _ (c .before .before .too-short .ensures) (c .before .if1 .taken) (c .refused2 .ensures)
+    let short = c .before in
+    let measured = short .before in
+    let read = before-measured measured in
+    short-turned _ _ (before-tested read .pre) (read .before .names-part .ensures) (read .test-formula .ensures .0) (read .test-formula .ensures .1) (measured .before .enum-told .given .1) _ (measured .too-short .ensures) (short .if1 .taken) (c .refused2 .ensures)
 
 report-requires : tie.Need-report-requires
 report-requires c κs =
-    let read = c .before .before .before .before .before .before .before .before .before .before .before in
-    report-asked _ _ (entry-of-tested read .pre) (read .before .names-part .ensures) (read .test-formula .ensures .0) (read .test-formula .ensures .1) (c .before .before .before .before .before .before .before .before .enum-told .given .1) _ (c .before .before .before .before .before .before .before .too-short .ensures) (c .before .before .before .before .before .before .if1 .left)
+    let enough = before-reported c in
+    let measured = enough .before in
+    let read = before-measured measured in
+    report-asked _ _ (before-tested read .pre) (read .before .names-part .ensures) (read .test-formula .ensures .0) (read .test-formula .ensures .1) (measured .before .enum-told .given .1) _ (measured .too-short .ensures) (enough .if1 .left)
 
 returns-2 : tie.Need-returns-2
 returns-2 c =
     let read = c .before .before .before .before .before in
-    formula-turned _ _ (entry-of-tested read .pre) (read .before .names-part .ensures) (read .test-formula .ensures .0) (read .test-formula .ensures .1) _ (c .before .before .tested .given .1) _ (c .refused .ensures)
+    formula-turned _ _ (before-tested read .pre) (read .before .names-part .ensures) (read .test-formula .ensures .0) (read .test-formula .ensures .1) _ (c .before .before .tested .given .1) _ (c .refused .ensures)
 
 same-length : tie.Need-same-length
 same-length c = search needs
@@ -66,8 +79,11 @@ same-length-6 c = search needs
 
 returns-3 : tie.Need-returns-3
 returns-3 c =
-    let read = c .before .before .before .before .before .before .before .before .before .before .before .before .before .before .before .before .before .before .before .before .before .before .before .before in
-    job-reported _ _ (entry-of-tested read .pre) (read .before .names-part .ensures) (read .test-formula .ensures .0) (read .test-formula .ensures .1) (c .before .before .before .before .before .before .before .before .before .before .before .before .before .before .before .before .before .before .before .before .before .enum-told .given .1) _ (c .before .before .before .before .before .before .before .before .before .before .before .before .before .before .before .before .before .before .before .before .too-short .ensures) (c .before .before .before .before .before .before .before .before .before .before .before .before .before .before .before .before .before .before .before .if1 .left) (c .before .before .before .before .before .before .before .before .before .before .before .before .report .ensures)
+    let reported = before-returned c in
+    let enough = before-reported (reported .before) in
+    let measured = enough .before in
+    let read = before-measured measured in
+    job-reported _ _ (before-tested read .pre) (read .before .names-part .ensures) (read .test-formula .ensures .0) (read .test-formula .ensures .1) (measured .before .enum-told .given .1) _ (measured .too-short .ensures) (enough .if1 .left) (reported .report .ensures)
 
 pub check-formula-spec : {M : Type 1} → statement M
 check-formula-spec =

@@ -36,8 +36,9 @@ write-bytes-requires c κs = search needs
 
 write-rows-requires : tie.Need-write-rows-requires
 write-rows-requires c κs =
-    let before = c .before .before .before .before .before .before in
-    (search needs, rows-room _ _ _ _ _ (omega arith) (before .before .rows-fit .ensures) (before .if5 .left) (c .before .before .before .write-bytes .ensures) (omega arith))
+    let headed = c .before .before .before in
+    let enough = headed .before .before .before in
+    (search needs, rows-room _ _ _ _ _ (omega arith) (enough .before .rows-fit .ensures) (enough .if5 .left) (headed .write-bytes .ensures) (omega arith))
 
 same-length : tie.Need-same-length
 same-length c = search needs

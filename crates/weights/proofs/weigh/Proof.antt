@@ -11,7 +11,10 @@ rising-requires : tie.Need-rising-requires
 rising-requires c κs = search (needs, weigh-laws)
 
 total-requires : tie.Need-total-requires
-total-requires c κs = may-total (search needs) (c .before .before .before .before .before .before .before .falling .ensures) (c .before .before .before .rising .ensures)
+total-requires c κs =
+    let risen = c .before .before .before in
+    let fallen = risen .before .before .before .before in
+    may-total (search needs) (fallen .falling .ensures) (risen .rising .ensures)
 
 same-length : tie.Need-same-length
 same-length c = search (needs, weigh-laws)

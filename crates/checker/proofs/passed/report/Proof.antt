@@ -4,28 +4,31 @@ use borrow.Author.Needs.{needs}
 use Rattle.checker.proofs.passed.report.Statement.{statement}
 use Rattle.checker.proofs.passed.report.Tie as tie
 
--- from the place after a call back to the place after the call before it
+-- from the place of a call back to the place after the call before it
 abbrev before-decided : tie.After-decide-all → tie.Start
 before-decided c = c .before .before .before .before .before .before .before .before .before .before .before .before
 
-abbrev before-written : tie.After-write → tie.After-decide-all
-before-written c = c .before .before .before .before .before .before .before .before .before .before .before .before
+abbrev before-written : tie.After-write-arg5 → tie.After-decide-all
+before-written c = c .before .before .before .before .before .before .before .before .before .before .before
 
-abbrev before-cleared : tie.After-clear-all → tie.After-write
-before-cleared c = c .before .before .before .before .before .before .before .before .before .before
+abbrev before-cleared : tie.After-clear-all-arg3 → tie.After-write
+before-cleared c = c .before .before .before .before .before .before .before .before .before
+
+abbrev before-returned : tie.After-slice-known15 → tie.After-clear-all
+before-returned c = c .before .before .before .before .before .before
 
 decide-all-requires : tie.Need-decide-all-requires
 decide-all-requires c κs = search (needs, decide-all-asked)
 
 write-requires : tie.Need-write-requires
 write-requires c κs =
-    let decided = c .before .before .before .before .before .before .before .before .before .before .before in
+    let decided = before-written c in
     let asked = before-decided decided .pre in
     (write-asked asked (decided .decide-all .ensures), (asked .room .lower, asked .room .upper, asked .room .verdicts))
 
 clear-all-requires : tie.Need-clear-all-requires
 clear-all-requires c κs =
-    let decided = before-written (c .before .before .before .before .before .before .before .before .before) in
+    let decided = before-written (before-cleared c .before) in
     clear-all-asked (before-decided decided .pre) (decided .decide-all .ensures)
 
 same-length : tie.Need-same-length
@@ -48,9 +51,9 @@ same-length-6 c = search needs
 
 returns : tie.Need-returns
 returns c =
-    let cleared = c .before .before .before .before .before .before in
-    let written = before-cleared cleared in
-    let decided = before-written written in
+    let cleared = before-returned c in
+    let written = before-cleared (cleared .before) in
+    let decided = before-written (written .before) in
     let results = written .write .ensures in
     left (before-decided decided .pre) (decided .decide-all .ensures) (results .0) (results .1 .0) (results .1 .1) (cleared .clear-all .ensures)
 

@@ -143,7 +143,8 @@ size-headed-size-state-requires t c κs =
 
 size-headed-over-one-requires : (t : ℕ) → size-headed-lts.Need-over-one-requires (calls-size-headed t) (size-headed-at t) size-headed.Post
 size-headed-over-one-requires t c κs =
-    let rest = c .before .before .before .before .before .before .args .s .now in
+    let head = c .before .before .before in
+    let rest = head .before .before .before .args .s .now in
     fits-wider (c .size-state .result) (length rest) 18446744073709551615 (c .size-state .ensures .1) (omega arith)
 
 size-headed-enum-told-5 : (t : ℕ) → size-headed-lts.Need-enum-told-5 (calls-size-headed t) (size-headed-at t) size-headed.Post
@@ -169,7 +170,8 @@ size-headed-after-two-requires t c κs = search needs
 
 size-headed-size-path-requires : (t : ℕ) → size-headed-lts.Need-size-path-requires (calls-size-headed t) (size-headed-at t) size-headed.Post
 size-headed-size-path-requires t c κs =
-    let h = rw (c .before .before .before .before .enum-told6 .given .1) at (c .before .before .before .before .before .before .read-head .ensures .1) in
+    let chance = c .before .before .before .before in
+    let h = rw (chance .enum-told6 .given .1) at (chance .before .before .read-head .ensures .1) in
     (omega (arith, two-within _ _ (c .after-two .ensures)), tt)
 
 size-headed-returns : (t : ℕ) → size-headed-lts.Need-returns (calls-size-headed t) (size-headed-at t) size-headed.Post
@@ -197,11 +199,11 @@ size-headed-returns-6 t c =
 
 size-headed-returns-7 : (t : ℕ) → size-headed-lts.Need-returns-7 (calls-size-headed t) (size-headed-at t) size-headed.Post
 size-headed-returns-7 t c =
-    let head = c .before .before .before .before .before .before .before .read-head .ensures in
-    let is-chance = c .before .before .before .before .before .enum-told6 .given .1 in
-    let bound = c .before .before .before .before .read-bound .ensures in
-    let is-bound = c .before .before .enum-told8 .given .1 in
-    headed-chance _ _ _ head is-chance _ bound _ _ _ _ is-bound (c .before .after-two .ensures) (c .size-path .ensures)
+    let bound = c .before .before in
+    let read = bound .before .before in
+    let chance = read .before in
+    let head = chance .before .before in
+    headed-chance _ _ _ (head .read-head .ensures) (chance .enum-told6 .given .1) _ (read .read-bound .ensures) _ _ _ _ (bound .enum-told8 .given .1) (c .before .after-two .ensures) (c .size-path .ensures)
 
 size-pair-size-state-requires : (t : ℕ) → size-pair-lts.Need-size-state-requires (calls-size-pair t) (size-pair-at t) size-pair.Post
 size-pair-size-state-requires t c κs = search needs
@@ -231,17 +233,19 @@ size-pair-size-state-requires-2 t c κs =
 
 size-pair-over-two-requires : (t : ℕ) → size-pair-lts.Need-over-two-requires (calls-size-pair t) (size-pair-at t) size-pair.Post
 size-pair-over-two-requires t c κs =
-    let s = c .before .before .before .before .before .before .before .args .s .now in
-    let first = c .before .before .before .before .before .size-state .ensures in
-    pair-asks s _ first _ _ _ (c .before .before .before .left .given .1) _ (c .size-state2 .ensures) 18446744073709551615 (omega arith)
+    let first = c .before .before .before .before .before in
+    let s = first .before .before .args .s .now in
+    pair-asks s _ (first .size-state .ensures) _ _ _ (c .before .before .before .left .given .1) _ (c .size-state2 .ensures) 18446744073709551615 (omega arith)
 
 size-pair-returns : (t : ℕ) → size-pair-lts.Need-returns (calls-size-pair t) (size-pair-at t) size-pair.Post
 size-pair-returns t c = pair-wrong _ _ (c .before .before .size-state .ensures) (c .enum-told .given .1)
 
 size-pair-returns-2 : (t : ℕ) → size-pair-lts.Need-returns-2 (calls-size-pair t) (size-pair-at t) size-pair.Post
 size-pair-returns-2 t c =
-    let first = c .before .before .before .before .before .before .size-state .ensures in
-    pair-two _ _ first _ _ _ (c .before .before .before .before .left .given .1) _ (c .before .size-state2 .ensures) _ (c .over-two .ensures)
+    let second = c .before in
+    let left = second .before .before .before in
+    let first = left .before .before in
+    pair-two _ _ (first .size-state .ensures) _ _ _ (left .left .given .1) _ (second .size-state2 .ensures) _ (c .over-two .ensures)
 
 size-path-read-hours-requires : (t : ℕ) → size-path-lts.Need-read-hours-requires (calls-size-path t) (size-path-at t) size-path.Post
 size-path-read-hours-requires t c κs = search needs

@@ -42,9 +42,11 @@ add-t15 c = search needs
 
 returns : tie.Need-returns
 returns c =
-    let b = c .before .before .before .before .before .before in
-    known-word _ (b .before .before .pre) (b .known-field .ensures)
-    (c .before .before .before .before .known-field2 .ensures) (c .before .before .known-field3 .ensures) (c .before .pack .ensures)
+    let packed = c .before in
+    let third = packed .before in
+    let second = third .before .before in
+    let first = second .before .before in
+    known-word _ (first .before .before .pre) (first .known-field .ensures) (second .known-field2 .ensures) (third .known-field3 .ensures) (packed .pack .ensures)
 
 pub known-line-spec : {M : Type 1} → statement M
 known-line-spec =

@@ -9,7 +9,11 @@ length-requires : tie.Need-length-requires
 length-requires c κs = search needs
 
 mul-result : tie.Need-mul-result
-mul-result c = let start = c .before .before .before .before .before .before .before in omega (arith, few-marks _ _ (start .pre .0) (start .pre .1))
+mul-result c =
+    let measured = c .before in
+    let known = measured .before .before .before in
+    let asked = known .before .before .before .pre in
+    omega (arith, few-marks _ _ (asked .0) (asked .1))
 
 returns : tie.Need-returns
 returns c = short-listed _ _ _ _ (c .before .before .length .ensures)

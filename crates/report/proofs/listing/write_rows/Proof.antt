@@ -49,11 +49,13 @@ loop-less c = search needs
 
 loop-again : tie.Need-loop-again Inv-loop μ-loop
 loop-again c =
-    let turn = c .before .before .before .before .before .before .before .before .before in
+    let row = c .before .before in
+    let verdict = row .before in
+    let read = verdict .before .before .before in
+    let turn = read .before .before .before in
     let states = turn .before .before .before .before .before .args .states in
-    let verdict = c .before .before .before .from-byte .ensures in
     let wrote = turn .loop .inv .2 in
-    (search needs, search needs, lines-more _ _ _ _ (turn .loop .i) states _ verdict (omega arith) (omega arith) wrote (c .before .before .write-row .ensures))
+    (search needs, search needs, lines-more _ _ _ _ (turn .loop .i) states _ (verdict .from-byte .ensures) (omega arith) (omega arith) wrote (row .write-row .ensures))
 
 same-length : tie.Need-same-length Inv-loop μ-loop
 same-length c = search needs

@@ -58,13 +58,19 @@ write-decimal-last-digit-requires-2 : (t : ℕ) → write-decimal-lts.Need-last-
 write-decimal-last-digit-requires-2 t c κs = search needs
 
 write-decimal-write-byte-requires-2 : (t : ℕ) → write-decimal-lts.Need-write-byte-requires-2 (calls-write-decimal t) (write-decimal-at t) write-decimal.Post
-write-decimal-write-byte-requires-2 t c κs = omega (arith, c .before .before .before .before .write-decimal .ensures .after, length-more (c .before .before .before .before .before .before .before .before .args .number) (omega arith))
+write-decimal-write-byte-requires-2 t c κs =
+    let led = c .before .before .before .before in
+    omega (arith, led .write-decimal .ensures .after, length-more (led .before .before .before .before .args .number) (omega arith))
 
 write-decimal-same-length-2 : (t : ℕ) → write-decimal-lts.Need-same-length-2 (calls-write-decimal t) (write-decimal-at t) write-decimal.Post
 write-decimal-same-length-2 t c = search needs
 
 write-decimal-returns-2 : (t : ℕ) → write-decimal-lts.Need-returns-2 (calls-write-decimal t) (write-decimal-at t) write-decimal.Post
-write-decimal-returns-2 t c = more-digits _ (omega arith) (omega arith) (c .before .before .before .last-digit2 .ensures) (c .before .before .before .before .before .before .before .write-decimal .ensures) (c .before .before .write-byte2 .ensures)
+write-decimal-returns-2 t c =
+    let wrote = c .before .before in
+    let last = wrote .before in
+    let led = last .before .before .before .before in
+    more-digits _ (omega arith) (omega arith) (last .last-digit2 .ensures) (led .write-decimal .ensures) (wrote .write-byte2 .ensures)
 
 pub +write-decimal-spec : {M : Type 1} → statement M
 +write-decimal-spec = close μ-write-decimal λ t. write-decimal-lts.spec (calls-write-decimal t)

@@ -5,6 +5,13 @@ use borrow.Author.Needs.{needs}
 use Rattle.sheetcheck.proofs.answer.write_answer.Statement.{statement}
 use Rattle.sheetcheck.proofs.answer.write_answer.Tie as tie
 
+-- from the place after a call back to the place after the call before it
+abbrev before-checked : tie.After-check → tie.Start
+before-checked c = c .before .before .before .before .before .before .before .before .before .before .before
+
+abbrev before-rendered : tie.After-render → tie.After-check
+before-rendered c = c .before .before .before .before .before .before .before .before .before .before .before
+
 slice-aggregate-check : tie.Need-slice-aggregate-check
 slice-aggregate-check c = search needs
 
@@ -50,9 +57,9 @@ same-length c = search needs
 returns : tie.Need-returns
 returns c =
     let rendered = c .before .before .before .before in
-    let checked = rendered .before .before .before .before .before .before .before .before .before .before .before in
+    let checked = before-rendered rendered in
     text-answered _
-    (answer-text _ _ _ _ _ _ _ _ (checked .before .before .before .before .before .before .before .before .before .before .before .pre) (rendered .render .ensures) (checked .check .ensures .0) (checked .check .ensures .1)
+    (answer-text _ _ _ _ _ _ _ _ (before-checked checked .pre) (rendered .render .ensures) (checked .check .ensures .0) (checked .check .ensures .1)
     (record { lowers = omega arith; uppers = omega arith; bytes = omega arith; words = omega arith; vectors = omega arith; marks = omega arith }))
     (c .before .length-of .ensures) (c .number-in .ensures)
 

@@ -52,7 +52,10 @@ loop-less : tie.Need-loop-less Inv-loop μ-loop
 loop-less c = search needs
 
 loop-again : tie.Need-loop-again Inv-loop μ-loop
-loop-again c = rw (rest-is, rest-is) (c .before .before .before .before .before .before .before .loop .inv ∙ same-more _ _ (omega arith) (omega arith) (c .before .before .if2 .left))
+loop-again c =
+    let alike = c .before .before in
+    let turn = alike .before .before .before .before .before in
+    rw (rest-is, rest-is) (turn .loop .inv ∙ same-more _ _ (omega arith) (omega arith) (alike .if2 .left))
 
 returns-3 : tie.Need-returns-3 Inv-loop μ-loop
 returns-3 c = sym (c .before .loop .inv ∙ same-ended _ _ (omega arith))

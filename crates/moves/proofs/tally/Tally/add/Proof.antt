@@ -23,7 +23,9 @@ returns : tie.Need-returns
 returns c = search (needs, plain-line)
 
 returns-2 : tie.Need-returns-2
-returns-2 c = rw (c .before .before .before .before .before .before .add .ensures)
+returns-2 c =
+    let told = c .before .before .before .before in
+    rw (told .before .before .add .ensures)
 
 pub add-spec : {M : Type 1} → statement M
 add-spec = tie.close (tie.spec mul-place add-place add-requires add-count add-next returns returns-2)
