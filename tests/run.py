@@ -2,6 +2,7 @@
 
 Tests that were skipped are told, each with its reason. The last line is `N passed, M failed`; N counts what was proved and what was tested.
 """
+import os
 import pathlib
 import re
 import subprocess
@@ -12,11 +13,15 @@ import unittest
 ROOT = pathlib.Path(__file__).resolve().parent.parent
 CLOSING = re.compile(r"(\d+) passed, (\d+) failed")
 
+# `rt` starts checks in batches and waits for the last of each: a few more than there are processors keep these busy.
+JOBS = min(4, 2 * (os.cpu_count() or 1))
+
 
 def prove():
     """What `rt ci` passed and failed; its output goes on to ours."""
     passed, failed = 0, 1
-    with subprocess.Popen(["rt", "ci"], cwd=ROOT, stdout=subprocess.PIPE, stderr=subprocess.STDOUT, text=True) as run:
+    jobs = {"RT_JOBS": str(JOBS)} | os.environ
+    with subprocess.Popen(["rt", "ci"], cwd=ROOT, env=jobs, stdout=subprocess.PIPE, stderr=subprocess.STDOUT, text=True) as run:
         for line in run.stdout:
             print(line, end="", flush=True)
             closing = CLOSING.fullmatch(line.strip())

@@ -3,9 +3,8 @@ use mathlib.Core.Path.{_≡_, refl}
 use mathlib.Core.List.{List}
 use Prim.Native.Nat.{ℕ}
 use Rattle.csl.specs.Report.{lowerOf, upperOf}
-use Rattle.verdicts.specs.Paper.{verdictOf, interval}
+use Rattle.verdicts.specs.Paper.{interval}
 use Rattle.verdicts.specs.Byte.{verdictAt}
-use Rattle.verdicts.specs.declared.verdict.Verdict.{Verdict}
 use Rattle.verdicts.specs.declared.interval.Interval.{Interval}
 use Rattle.until.specs.Reading.{verdicts}
 use Rattle.until.proofs.EndsLaw as ends
@@ -13,11 +12,11 @@ use Rattle.until.proofs.EndsLaw as ends
 abbrev pub Inv : (l₀ l second : List ℕ) (n s : ℕ) → Type 0
 Inv l₀ l second n s = ends.Inv (λ g. lowerOf (verdicts second g)) (λ g. upperOf (verdicts second g)) l₀ l n s
 
-module _ (r : Interval) (v : Verdict) (b : ℕ) (e : r ≡ interval (lowerOf (verdictOf v)) (upperOf (verdictOf v))) (f : verdictOf v ≡ verdictAt b) where
+module _ (r : Interval) (b : ℕ) (e : r ≡ interval (lowerOf (verdictAt b)) (upperOf (verdictAt b))) where
   pub lower-is : r .lower ≡ lowerOf (verdictAt b)
-  lower-is = rw (e, f) refl
+  lower-is = rw e refl
 
   pub upper-is : r .upper ≡ upperOf (verdictAt b)
-  upper-is = rw (e, f) refl
+  upper-is = rw e refl
 
 pub ruleset still-laws = (ends.ends-laws, lower-is, upper-is)

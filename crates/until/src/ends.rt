@@ -47,7 +47,7 @@ pub fn still(words: &mut [u64], second: &[u8], n: usize)
 {
     let mut s: usize = 0;
     while s < n {
-        let ends = Interval::of(Verdict::from_byte(second[s]));
+        let ends = Interval::of_byte(second[s]);
         words[s] = ends.lower as u64;
         words[n + s] = ends.upper as u64;
         s += 1;

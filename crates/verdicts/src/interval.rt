@@ -5,6 +5,7 @@ ghost use mathlib.Core.Path.{_≡_};
 ghost use Rattle.csl.specs.Verdicts.{judged, judgedAtLeast, judgedMore};
 ghost use Rattle.csl.specs.Report.{lowerOf, upperOf};
 ghost use Rattle.verdicts.specs.Paper.{verdictOf, comparisonOf, interval};
+ghost use Rattle.verdicts.specs.Byte.{verdictAt};
 
 // Probability 1, in billionths.
 const ONE: u32 = limits::BILLION as u32;
@@ -41,14 +42,16 @@ impl Interval {
         }
     }
 
-    // The interval that a verdict alone stands for: a report's for an outermost node other than `P`, an until's at load 0.
-    pub fn of(verdict: Verdict) -> Interval
-        ensures { λ r. ⌜ r ≡ interval (lowerOf (verdictOf verdict)) (upperOf (verdictOf verdict)) ⌝ }
+    // The interval that a verdict byte alone stands for: a report's for an outermost node other than `P`, an until's at load 0.
+    pub fn of_byte(byte: u8) -> Interval
+        ensures { λ r. ⌜ r ≡ interval (lowerOf (verdictAt byte)) (upperOf (verdictAt byte)) ⌝ }
     {
-        match verdict {
-            Verdict::No => Interval::IMPOSSIBLE,
-            Verdict::Yes => Interval::CERTAIN,
-            Verdict::Undecided => Interval::UNKNOWN,
+        if byte == 0 {
+            Interval::IMPOSSIBLE
+        } else if byte == 1 {
+            Interval::CERTAIN
+        } else {
+            Interval::UNKNOWN
         }
     }
 

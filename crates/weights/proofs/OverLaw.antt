@@ -1,56 +1,62 @@
--- A quotient in two digits of 8 bits: each step fits 64 bits. Assumes nothing.
+-- A quotient from its whole part and from what is left: each step fits 64 bits. Assumes nothing.
 use mathlib.Core.Path.{_≡_, sym}
-use Prim.Native.Nat.{ℕ, _+_, _*_, _/_, _%_}
+use Prim.Native.Nat.{ℕ, _+_, _*_, _/_, _%_, _<_}
 use native.Mathlib.Omega.{arith}
 use native.Mathlib.Nat.{div-add-mod', mod-lt, lt-of-mul-lt-mul-right}
 use mir.Val.{Fits}
 use mir.Syntax.{w64}
 use Rattle.numbers.specs.Hint.{eq-times, div-is}
 use Rattle.bounds.specs.Unit.{scale}
-use Rattle.weights.specs.Asked.{Over}
+use Rattle.weights.specs.Asked.{Over, Share}
 
--- the code's names
-abbrev rest : ℕ → ℕ → ℕ
-rest g t = g % t * 256
-
-abbrev half : ℕ → ℕ → ℕ
-half g t = g / t * 256 + rest g t / t
-
+-- what the code adds up
 abbrev whole : ℕ → ℕ → ℕ
-whole g t = half g t * 256 + rest g t % t * 256 / t
+whole g t = g / t * scale + g % t * scale / t
 
-over-whole : (g t : ℕ) → g * scale ≡ whole g t * t + rest g t % t * 256 % t
-over-whole g t =
-    omega (
-      arith,
-      eq-times scale (div-add-mod' g t),
-      eq-times 256 (div-add-mod' (rest g t) t),
-      div-add-mod' (rest g t % t * 256) t,
-    )
+over-whole : (g t : ℕ) → g * scale ≡ whole g t * t + g % t * scale % t
+over-whole g t = omega (arith, eq-times scale (div-add-mod' g t), div-add-mod' (g % t * scale) t)
 
 module _ {g t : ℕ} (p : Over g t) where
   pub over-is : whole g t ≡ g * scale / t
   over-is =
-      sym
-      (div-is (whole g t) (g * scale) t (omega (arith, over-whole g t))
-      (omega (arith, over-whole g t, mod-lt (rest g t % t * 256) (p .some))))
+      sym (div-is (whole g t) (g * scale) t (omega (arith, over-whole g t)) (omega (arith, over-whole g t, mod-lt (g % t * scale) (p .some))))
 
   pub over-fits : Fits w64 (whole g t)
   over-fits = record { fits = lt-of-mul-lt-mul-right t (omega (arith, over-whole g t, p .fits)) }
 
-  pub half-times-fits : Fits w64 (half g t * 256)
-  half-times-fits = omega (arith, over-fits)
+  pub high-fits : Fits w64 (g / t * scale)
+  high-fits = omega (arith, over-fits)
 
-  pub half-fits : Fits w64 (half g t)
-  half-fits = omega (arith, over-fits)
+  pub shared : Share (g % t) t
+  shared = record { less = mod-lt g (p .some); divisor = p .divisor }
 
-  pub half-high-fits : Fits w64 (g / t * 256)
-  half-high-fits = omega (arith, half-fits)
+pub ruleset over-laws = (over-is, over-fits, high-fits, shared)
 
-  pub rest-fits : Fits w64 (rest g t)
-  rest-fits = omega (arith, mod-lt g (p .some), p .divisor)
+-- the share in two digits
+abbrev digits : ℕ → ℕ → ℕ
+digits rest t = rest * 256 / t * 256 + rest * 256 % t * 256 / t
 
-  pub rest-low-fits : Fits w64 (rest g t % t * 256)
-  rest-low-fits = omega (arith, mod-lt (rest g t) (p .some), p .divisor)
+module _ {rest t : ℕ} (p : Share rest t) where
+  some : 0 < t
+  some = omega (arith, p .less)
 
-pub ruleset over-laws = (over-is, over-fits, half-times-fits, half-fits, half-high-fits, rest-fits, rest-low-fits)
+  digits-whole : rest * scale ≡ digits rest t * t + rest * 256 % t * 256 % t
+  digits-whole =
+      omega (arith, eq-times 256 (div-add-mod' (rest * 256) t), div-add-mod' (rest * 256 % t * 256) t)
+
+  pub share-is : digits rest t ≡ rest * scale / t
+  share-is =
+      sym
+      (div-is (digits rest t) (rest * scale) t (omega (arith, digits-whole))
+      (omega (arith, digits-whole, mod-lt (rest * 256 % t * 256) some)))
+
+  pub share-fits : Fits w64 (digits rest t)
+  share-fits = record { fits = lt-of-mul-lt-mul-right t (omega (arith, digits-whole, p .less, p .divisor)) }
+
+  pub first-fits : Fits w64 (rest * 256 / t * 256)
+  first-fits = omega (arith, share-fits)
+
+  pub second-fits : Fits w64 (rest * 256 % t * 256)
+  second-fits = omega (arith, mod-lt (rest * 256) some, p .divisor)
+
+pub ruleset share-laws = (share-is, share-fits, first-fits, second-fits)

@@ -44,6 +44,11 @@ pub record Over (g t : ℕ) : Type 0 where
   pub divisor : t < 2 ^ 52
   pub fits : g * scale < 2 ^ 64 * t
 
+-- what is left of a division by the total, to be put over it
+pub record Share (rest t : ℕ) : Type 0 where
+  pub less : rest < t
+  pub divisor : t < 2 ^ 52
+
 -- the weights below the middle, from place p on
 pub record Half (l : List ℕ) (p m a b : ℕ) : Type 0 where
   pub middle : Middle a b m

@@ -6,7 +6,7 @@ ghost use Rattle.numbers.specs.Filled.{Filled};
 ghost use Rattle.bounds.specs.Weight.{low};
 ghost use Rattle.bounds.specs.Unit.{scale, part};
 ghost use Rattle.bounds.specs.Ends as ends;
-ghost use Rattle.weights.specs.Asked.{Fall, Rise, Slack, Adds, Over, Half, Rest, weighed, Total, Weigh};
+ghost use Rattle.weights.specs.Asked.{Fall, Rise, Slack, Adds, Over, Share, Half, Rest, weighed, Total, Weigh};
 
 // The weight of step k - 1, from the weight w of step k.
 fn before(w: u64, k: u64, a: u64, b: u64) -> u64
@@ -32,17 +32,30 @@ pub fn added(sum: u64, w: u64, v: u64) -> u64
     sum + (w / bounds::GRAIN * v + w % bounds::GRAIN * v / bounds::GRAIN)
 }
 
-// The scale of a sum is two digits of this size.
+// What is left of a division by a total below this, times the scale, fits 64 bits.
+const NARROW: u64 = 281474976710656;
+
+// Above it the scale is taken in two digits of this size.
 const DIGIT: u64 = 256;
+
+// What is left of a division by the total, times the scale, over the total.
+fn share(rest: u64, t: u64) -> u64
+    requires { ⌜ Share rest t ⌝ }
+    ensures { λ r. ⌜ r ≡ rest * scale / t ⌝ }
+{
+    if t < NARROW {
+        return rest * bounds::SCALE / t;
+    }
+    let high = rest * DIGIT;
+    high / t * DIGIT + high % t * DIGIT / t
+}
 
 // A sum over the total of the weights, in billionths, rounded down.
 pub fn over(g: u64, t: u64) -> u64
     requires { ⌜ Over g t ⌝ }
     ensures { λ r. ⌜ r ≡ g * scale / t ⌝ }
 {
-    let u = g % t * DIGIT;
-    let h = g / t * DIGIT + u / t;
-    h * DIGIT + u % t * DIGIT / t
+    g / t * bounds::SCALE + share(g % t, t)
 }
 
 // How many steps lie between m and k.

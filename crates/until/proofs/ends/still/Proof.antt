@@ -14,14 +14,11 @@ abbrev μ-loop : tie.MeasureT-loop
 loop-holds : tie.Need-loop-holds Inv-loop μ-loop
 loop-holds c = search (needs, still-laws)
 
-shared-slice-read-from-byte : tie.Need-shared-slice-read-from-byte Inv-loop μ-loop
-shared-slice-read-from-byte c = search (needs, still-laws)
+shared-slice-read-of-byte : tie.Need-shared-slice-read-of-byte Inv-loop μ-loop
+shared-slice-read-of-byte c = search (needs, still-laws)
 
-from-byte-requires : tie.Need-from-byte-requires Inv-loop μ-loop
-from-byte-requires c κs = search (needs, still-laws)
-
-of-requires : tie.Need-of-requires Inv-loop μ-loop
-of-requires c κs = search (needs, still-laws)
+of-byte-requires : tie.Need-of-byte-requires Inv-loop μ-loop
+of-byte-requires c κs = search (needs, still-laws)
 
 cast-words : tie.Need-cast-words Inv-loop μ-loop
 cast-words c = search (needs, still-laws)
@@ -66,9 +63,8 @@ still-spec =
     Inv-loop
     μ-loop
     loop-holds
-    shared-slice-read-from-byte
-    from-byte-requires
-    of-requires
+    shared-slice-read-of-byte
+    of-byte-requires
     cast-words
     mul-words
     slice-write-words
