@@ -24,12 +24,13 @@ fn after(w: u64, k: u64, a: u64, b: u64) -> u64
     division::muldiv(w, a, k * b)
 }
 
-// A sum with a weight times a value added, rounded down.
+// A sum with a weight times a value added, rounded down. That the weight's high digit fits 32 bits makes its product a quick one.
 pub fn added(sum: u64, w: u64, v: u64) -> u64
     requires { ⌜ Adds sum w v ⌝ }
     ensures { λ r. ⌜ r ≡ sum + part w v ⌝ }
 {
-    sum + (w / bounds::GRAIN * v + w % bounds::GRAIN * v / bounds::GRAIN)
+    let high = (w / bounds::GRAIN) as u32;
+    sum + (high as u64 * v + w % bounds::GRAIN * v / bounds::GRAIN)
 }
 
 // What is left of a division by a total below this, times the scale, fits 64 bits.
