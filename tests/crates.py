@@ -38,6 +38,11 @@ def texts(crate, pattern):
     return {path.relative_to(folder).as_posix(): COMMENT.sub("", path.read_text()) for path in found}
 
 
+def modules(crate):
+    """The modules that a crate is made of."""
+    return {module for text in texts(crate, "*.rt").values() for module in MODULE.findall(text)}
+
+
 @cache
 def paths(crate):
     """What the code of a crate names in others: a set of words for each word that a path begins with, its own modules left out."""
@@ -45,8 +50,7 @@ def paths(crate):
     for text in texts(crate, "*.rt").values():
         for first, rest in PATH.findall(text):
             found[first].update(WORD.findall(rest))
-    own = {module for text in texts(crate, "*.rt").values() for module in MODULE.findall(text)}
-    return {first: words for first, words in found.items() if first not in own}
+    return {first: words for first, words in found.items() if first not in modules(crate)}
 
 
 @cache

@@ -1,4 +1,4 @@
-"""That crates.txt lists what each crate names and no more, and that public is only what another crate calls."""
+"""That crates.txt lists what each crate names and no more, that no module is named like a crate, and that public is what another crate calls."""
 import unittest
 from unittest import mock
 
@@ -27,6 +27,11 @@ class Crates(unittest.TestCase):
     def test_lists_all_crates(self):
         self.assertEqual(sorted(crates.listed()), sorted(path.name for path in (crates.ROOT / "crates").iterdir()))
 
+    def test_no_module_has_the_name_of_a_crate(self):
+        """`rt try` hands every crate to every other, so that such a name would have two meanings."""
+        told = [f"{name}: {' '.join(sorted(same))}" for name in crates.listed() if (same := crates.modules(name) & set(crates.listed()))]
+        self.none("modules that have the name of a crate", told)
+
     def test_public_is_what_another_crate_calls(self):
         self.assertGreater(sum(len(crates.public(name)) for name in crates.listed()), 50)
         told = [f"{name}: {' '.join(items)}" for name in crates.listed() if (items := crates.for_nobody(name))]
@@ -46,6 +51,9 @@ class Rules(unittest.TestCase):
 
     def test_named(self):
         self.assertEqual(crates.wanted(), {"first_made": [], "middle_made": ["first_made"], "last_made": ["first_made", "middle_made"]})
+
+    def test_modules(self):
+        self.assertEqual([crates.modules(name) for name in MADE_UP], [set(), {"part"}, set()])
 
     def test_for_nobody(self):
         self.assertEqual(crates.for_nobody("first_made"), ["Other"])

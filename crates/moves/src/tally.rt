@@ -8,6 +8,9 @@ ghost use lib.ListN.{length};
 ghost use Rattle.csl.specs.Limits.{sheetBytes};
 ghost use Rattle.moves.specs.Tally.{Addable, added, begun, talliedAt};
 
+// The numbers of a line are below this, so that its place in order, by `from` and then by `to`, is one number.
+const PLACES: u64 = 1073741824;
+
 // What the lines so far say: how many; a state past the last; a move to its own state; a line not above the one before it; the least place
 // in order that the next line may have; and their rates.
 pub struct Tally {
@@ -39,7 +42,7 @@ impl Tally {
         requires { ⌜ Addable (self .count) (self .totals) from to rate ⌝ }
         ensures { λ r. ⌜ r ≡ added states self from to rate ⌝ }
     {
-        let place = from * 1073741824 + to;
+        let place = from * PLACES + to;
         let before = self.totals;
         let totals = before.add(from, rate);
         let count = self.count + 1;

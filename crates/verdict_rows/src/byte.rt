@@ -4,6 +4,7 @@ use verdicts::Interval;
 use verdicts::Verdict;
 ghost use mathlib.Core.Path.{_≡_};
 ghost use Prim.Native.Nat.{_<_, _≤_};
+ghost use Rattle.csl.specs.Limits.{billion};
 ghost use Rattle.verdicts.specs.Paper.{comparisonOf};
 ghost use Rattle.verdict_rows.specs.Byte.{labelByte, negatedByte, joinedByte, judgedByte};
 
@@ -31,7 +32,7 @@ pub fn of_both(a: u8, b: u8) -> u8
 
 // Of a `P`, from its ends.
 pub fn of_ends(lower: u64, upper: u64, comparison: Comparison, threshold: u32) -> u8
-    requires { ⌜ (lower ≤ 1000000000) × (upper ≤ 1000000000) ⌝ }
+    requires { ⌜ (lower ≤ billion) × (upper ≤ billion) ⌝ }
     ensures { λ r. ⌜ r ≡ judgedByte (comparisonOf comparison) threshold lower upper ⌝ }
 {
     Interval::new(lower as u32, upper as u32)
