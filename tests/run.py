@@ -13,8 +13,8 @@ import unittest
 ROOT = pathlib.Path(__file__).resolve().parent.parent
 CLOSING = re.compile(r"(\d+) passed, (\d+) failed")
 
-# `rt` starts checks in batches and waits for the last of each: one more than there are processors keeps these busy.
-JOBS = min(4, (os.cpu_count() or 1) + 1)
+# `rt` starts checks in batches and waits for the last of each: a few more than there are processors keep these busy.
+JOBS = min(4, 2 * (os.cpu_count() or 1))
 
 
 def prove():
