@@ -99,7 +99,7 @@ def gun_string():
         "power": lambda s: s.power == up,
         "lost": lambda s: s.collar == failed and s.gamma != good,
     }
-    return Sheet(*joined(parts, [(shock, 250)]), labels, "P <= 10000000 U 8 power lost", told_parts)
+    return Sheet(*joined(parts, [(shock, 250)]), labels, "P <= 10000000 U 8.25 power lost", told_parts)
 
 
 def redundant_string():

@@ -9,7 +9,7 @@ from fractions import Fraction
 from math import gcd, lcm
 
 from .chain import depth, until
-from .limits import BILLION, RATE_HOURS
+from .limits import BILLION, RATE_HUNDREDTHS
 
 # `down`: the greatest whole billionth below or at all quotients from D on.
 # `up`: the least whole billionth above or at all of them.
@@ -19,7 +19,7 @@ Bounds = namedtuple("Bounds", "down up")
 class Run:
     """The sums of a phase to the depth reached, step by step.
 
-    With all rates divided by g, their greatest common divisor, q' = q / g and x / y = t g / 10^6, the
+    With all rates divided by g, their greatest common divisor, q' = q / g and x / y = t g / 10^8, the
     weight of step k is (x q' / y)^k / k! and a step value has a top over q'^k. So weight x value is
     tops / (y^k k!), where each step multiplies the tops by x times the divided rates. `sums` and
     `total` are over y^N N! at depth N; `weight` is the top of the last weight alone.
@@ -28,7 +28,7 @@ class Run:
     def __init__(self, chain, phase):
         self.chain, self.phase, self.depth = chain, phase, 0
         g = gcd(*chain.rates.values()) or 1
-        share = Fraction(phase.hours * g, RATE_HOURS)
+        share = Fraction(phase.hundredths * g, RATE_HUNDREDTHS)
         self.x, self.y = share.numerator, share.denominator
         self.q = chain.q // g
         self.rows = [self.row(s, g) for s in range(chain.states) if s not in phase.ones | phase.zeros]
@@ -97,7 +97,7 @@ def reaching(chain, first, second):
     return found
 
 
-def bracket(chain, first, second, hours):
+def bracket(chain, first, second, hundredths):
     """For each state the Bounds of all quotients of this until from D on.
 
     Step values never fall: at step 1 each is at least that of step 0, and a step takes values that are
@@ -110,10 +110,10 @@ def bracket(chain, first, second, hours):
     Elsewhere the limit is above 0 and not rational (a sum of powers of e, not constant in time), so it
     is no whole billionth and going deeper settles it.
     """
-    run = Run(chain, until(first, second, hours))
-    if chain.load(hours) == 0:
+    run = Run(chain, until(first, second, hundredths))
+    if chain.load(hundredths) == 0:
         return [Bounds(BILLION * value, BILLION * value) for value in run.phase.start]
-    run.to(depth(chain.load(hours)))
+    run.to(depth(chain.load(hundredths)))
     open_states = reaching(chain, first, second)
     downs = [floor_billionths(top, run.total) for top in run.sums]
     ups = downs[:]

@@ -9,7 +9,7 @@ from functools import cached_property
 from itertools import islice
 from math import ceil
 
-from .limits import LOAD_STEPS, RATE_HOURS, SPARE_STEPS
+from .limits import LOAD_STEPS, RATE_HUNDREDTHS, SPARE_STEPS
 
 
 @dataclass(frozen=True)
@@ -38,8 +38,9 @@ class Chain:
         """The uniformisation rate: the greatest exit rate."""
         return max(self.exits)
 
-    def load(self, hours):
-        return Fraction(self.q * hours, RATE_HOURS)
+    def load(self, hundredths):
+        """The load of an until over so many hundredths of an hour."""
+        return Fraction(self.q * hundredths, RATE_HUNDREDTHS)
 
 
 def depth(load):
@@ -49,20 +50,20 @@ def depth(load):
 
 @dataclass(frozen=True)
 class Phase:
-    """A start vector and, for every later step, the states pinned to 1 and to 0; hours of it."""
+    """A start vector and, for every later step, the states pinned to 1 and to 0; its hundredths of an hour."""
     start: tuple
     ones: frozenset
     zeros: frozenset
-    hours: int
+    hundredths: int
 
 
-def until(first, second, hours):
+def until(first, second, hundredths):
     """Until as a phase: `first` and `second` say for each state whether the operand holds."""
     states = range(len(second))
     return Phase(start=tuple(int(second[s]) for s in states),
                  ones=frozenset(s for s in states if second[s]),
                  zeros=frozenset(s for s in states if not first[s] and not second[s]),
-                 hours=hours)
+                 hundredths=hundredths)
 
 
 def step_values(chain, phase):
@@ -97,7 +98,7 @@ def weights(load):
 def quotients(chain, phase, last):
     """The exact quotient of each state at depth `last`."""
     tops, total = [Fraction(0)] * chain.states, Fraction(0)
-    pairs = zip(weights(chain.load(phase.hours)), step_values(chain, phase))
+    pairs = zip(weights(chain.load(phase.hundredths)), step_values(chain, phase))
     for weight, values in islice(pairs, last + 1):
         tops = [top + weight * value for top, value in zip(tops, values)]
         total += weight

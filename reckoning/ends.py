@@ -23,7 +23,7 @@ class Rules:
         self.known = {}
 
     def depth(self, path):
-        return depth(self.chain.load(path.hours))
+        return depth(self.chain.load(path.hundredths))
 
     def width(self, path, first, second):
         """The most that two ends may differ; None where an operand state is undecided."""
@@ -32,9 +32,9 @@ class Rules:
     def bounds(self, path, first, second):
         """The bracket of a reading; where the second operand holds the first does not matter."""
         alone = tuple(a and not b for a, b in zip(first, second))
-        key = path.hours, alone, second
+        key = path.hundredths, alone, second
         if key not in self.known:
-            self.known[key] = bracket(self.chain, alone, second, path.hours)
+            self.known[key] = bracket(self.chain, alone, second, path.hundredths)
         return self.known[key]
 
     def ends(self, path, first, second):
@@ -43,7 +43,7 @@ class Rules:
         highs = self.bounds(path, reading(first, (YES, UNDECIDED)), reading(second, (YES, UNDECIDED)))
         slack = WIDTH_FACTOR * self.depth(path)
         width = self.width(path, first, second)
-        exact = self.chain.load(path.hours) == 0
+        exact = self.chain.load(path.hundredths) == 0
         return [state_ends(a, b, low, high, 0 if exact else slack, width)
                 for a, b, low, high in zip(first, second, lows, highs)]
 

@@ -2,8 +2,8 @@
 
 from dataclasses import dataclass
 
-from .limits import FORMULA_DIGITS
-from .texts import LINE_FEED, TRUE_WORD, is_number, is_word
+from .limits import FORMULA_DIGITS, HOUR
+from .texts import LINE_FEED, TRUE_WORD, is_decimals, is_number, is_word
 
 COMPARISONS = (b"<", b"<=", b">=", b">")
 
@@ -31,8 +31,8 @@ class And:
 
 @dataclass(frozen=True)
 class Until:
-    """A path formula: neither a node nor a level."""
-    hours: int
+    """A path formula: neither a node nor a level. Its hours are in hundredths."""
+    hundredths: int
     first: object
     second: object
 
@@ -99,10 +99,10 @@ def bounded(tokens, at):
 def path_formula(tokens, at):
     if token(tokens, at) != b"U":
         raise Broken
-    hours = number(tokens, at + 1)
+    hundredths = hours(tokens, at + 1)
     first, at = state_formula(tokens, at + 2)
     second, at = state_formula(tokens, at)
-    return Until(hours, first, second), at
+    return Until(hundredths, first, second), at
 
 
 def number(tokens, at):
@@ -112,12 +112,26 @@ def number(tokens, at):
     return int(part)
 
 
+def hours(tokens, at):
+    """Hours, in hundredths: a number, and perhaps a point and decimals."""
+    whole, point, decimals = token(tokens, at).partition(b".")
+    if not is_number(whole, FORMULA_DIGITS) or point and not is_decimals(decimals):
+        raise Broken
+    return int(whole) * HOUR + int(decimals.ljust(2, b"0"))
+
+
+def hours_text(hundredths):
+    """So many hundredths of an hour as the formula has them: with no more decimals than they need."""
+    whole, rest = divmod(hundredths, HOUR)
+    return b"%d" % whole + (b".%02d" % rest).rstrip(b"0") if rest else b"%d" % whole
+
+
 def spelled(tree):
-    """The text of a formula, without its line feed. Hours stand as they print, so that a word can take their place."""
+    """The text of a formula, without its line feed."""
     if isinstance(tree, (Tt, Label)):
         return TRUE_WORD if isinstance(tree, Tt) else tree.name
     if isinstance(tree, P):
-        head = b"P %s %d U %s" % (tree.comparison, tree.threshold, str(tree.path.hours).encode())
+        head = b"P %s %d U %s" % (tree.comparison, tree.threshold, hours_text(tree.path.hundredths))
     else:
         head = b"!" if isinstance(tree, Not) else b"&"
     return b" ".join([head, *map(spelled, operands(tree))])

@@ -1,4 +1,4 @@
-"""The limits, units and sizes of document 01, each with the sentence that it renders; named as in crates/csl/specs/Limits.antt.
+"""The limits, units and sizes of documents 01 and 02, each with the sentence that it renders; named as in crates/csl/specs/Limits.antt.
 
 Whatever in Python needs such a number takes it from here, so that a request which changes it changes one line.
 """
@@ -18,8 +18,12 @@ MOST_LETTERS = 12
 MOST_STATES = 512
 MOST_MOVES = 4_096
 
-# "A rate is moves per million hours, from 1."; "the load L is q × t / 1,000,000"
+# "A rate is moves per million hours, from 1."
 RATE_HOURS = 1_000_000
+
+# "The reader of hours .. hands back hundredths": an hour, in these; "The load is q × hundredths / 100,000,000"
+HOUR = 100
+RATE_HUNDREDTHS = RATE_HOURS * HOUR
 
 # "The rates out of one state add to at most 64,000,000."
 MOST_RATE = 64_000_000
@@ -32,13 +36,13 @@ SHEET_BYTES = 61_440
 MOST_NODES = 64
 MOST_LEVELS = 16
 
-# "threshold over 1,000,000,000 or hours over 8,760"; "q × t over 64,000,000 for some until"
+# "threshold over 1,000,000,000"; "the top is 8,760 hours as before, and 14 compares q × hundredths with 6,400,000,000"
 MOST_THRESHOLD = BILLION
-MOST_HOURS = 8_760
-MOST_RATE_HOURS = 64_000_000
+MOST_HUNDREDTHS = 8_760 * HOUR
+MOST_RATE_HUNDREDTHS = 6_400_000_000
 
 # The greatest load that follows.
-MOST_LOAD = MOST_RATE_HOURS // RATE_HOURS
+MOST_LOAD = MOST_RATE_HUNDREDTHS // RATE_HUNDREDTHS
 
 # "The depth D is 2 × (L rounded up to a whole number) + 40."
 LOAD_STEPS = 2
@@ -52,6 +56,6 @@ VECTOR_PLACES = 10
 VECTOR_SPARE = 512
 
 
-def most_hours(rate, rate_hours=MOST_RATE_HOURS):
-    """The most hours for which a greatest exit rate times the hours stays within a limit."""
-    return min(MOST_HOURS, rate_hours // rate) if rate else MOST_HOURS
+def most_hundredths(rate, product=MOST_RATE_HUNDREDTHS):
+    """The most hundredths of an hour for which a greatest exit rate times them stays within a limit."""
+    return min(MOST_HUNDREDTHS, product // rate) if rate else MOST_HUNDREDTHS

@@ -6,7 +6,7 @@ from functools import cached_property
 from . import formula as f
 from . import texts
 from .chain import Chain
-from .limits import (FORMULA_BYTES, VECTOR_SPARE, MOST_HOURS, MOST_LEVELS, MOST_MOVES, MOST_NODES, MOST_RATE, MOST_RATE_HOURS,
+from .limits import (FORMULA_BYTES, VECTOR_SPARE, MOST_HUNDREDTHS, MOST_LEVELS, MOST_MOVES, MOST_NODES, MOST_RATE, MOST_RATE_HUNDREDTHS,
                      MOST_STATES, MOST_THRESHOLD, SHEET_BYTES, VECTOR_PLACES)
 
 Lent = namedtuple("Lent", "lower upper verdicts moves vectors marks")
@@ -114,11 +114,11 @@ def unknown_name(job):
 
 
 def large_number(job):
-    return any(p.threshold > MOST_THRESHOLD or p.path.hours > MOST_HOURS for p in f.bounds(job.tree))
+    return any(p.threshold > MOST_THRESHOLD or p.path.hundredths > MOST_HUNDREDTHS for p in f.bounds(job.tree))
 
 
 def large_load(job):
-    return any(job.chain.q * p.path.hours > MOST_RATE_HOURS for p in f.bounds(job.tree))
+    return any(job.chain.q * p.path.hundredths > MOST_RATE_HUNDREDTHS for p in f.bounds(job.tree))
 
 
 def lengths(states, moves, nodes):

@@ -1,5 +1,6 @@
 """Sheets as they are typed: moves and labels written from values, and the small sheet and the bench texts of document 01."""
 
+from .formula import hours_text
 from .limits import MOST_RATE
 from .report import HEAD
 from .texts import LABELS_HEAD, MOVES_HEAD
@@ -19,9 +20,9 @@ def labels_text(names, rows):
     return b"".join(b",".join(line) + b"\n" for line in lines)
 
 
-def until(hours, comparison=b"<", threshold=1):
+def until(hundredths, comparison=b"<", threshold=1):
     """An until over the two labels of the small sheet, as a formula text."""
-    return b"P %s %d U %d up dead\n" % (comparison, threshold, hours)
+    return b"P %s %d U %s up dead\n" % (comparison, threshold, hours_text(hundredths))
 
 
 # "With labels `state,up,dead` / `0,1,0` / `1,0,1`, moves `from,to,rate` / `0,1,500` and formula `P >= 1000000000 U 0 up dead`,

@@ -1,4 +1,4 @@
-"""The layouts of the three texts, as bytes: numbers, lines, fields, names."""
+"""The layouts of the three texts, as bytes: numbers, decimals, lines, fields, names."""
 
 import re
 
@@ -13,12 +13,18 @@ LABELS_HEAD = b"state"
 TRUE_WORD = b"tt"
 
 NUMBER = re.compile(rb"0|[1-9][0-9]*")
+DECIMALS = re.compile(rb"[0-9]?[1-9]")
 WORD = re.compile(rb"[a-z]+")
 
 
 def is_number(field, digits):
     """Digits without a leading zero, or 0 alone, at most so many."""
     return len(field) <= digits and NUMBER.fullmatch(field) is not None
+
+
+def is_decimals(field):
+    """One or two digits, the last of them not 0."""
+    return DECIMALS.fullmatch(field) is not None
 
 
 def is_word(field):

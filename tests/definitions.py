@@ -80,7 +80,7 @@ def check(jobs):
 
 def vectors(most):
     """The vectors whose three texts have at most so many bytes together."""
-    return [case for name in ("refusals.jsonl", "reports.jsonl") for case in cases(name) if sum(map(len, texts_of(case))) <= most]
+    return [case for case in cases() if sum(map(len, texts_of(case))) <= most]
 
 
 def main():

@@ -1,6 +1,6 @@
 """Jobs that meet a limit of document 01 exactly, and jobs that pass it by one."""
-from reckoning.limits import (BILLION, FORMULA_BYTES, FORMULA_DIGITS, MOST_HOURS, MOST_LETTERS, MOST_LEVELS, MOST_MOVES, MOST_NAMES, MOST_NODES,
-                              MOST_RATE, MOST_RATE_HOURS, MOST_STATES, SHEET_BYTES, SHEET_DIGITS, most_hours)
+from reckoning.limits import (BILLION, FORMULA_BYTES, FORMULA_DIGITS, HOUR, MOST_HUNDREDTHS, MOST_LETTERS, MOST_LEVELS, MOST_MOVES, MOST_NAMES,
+                              MOST_NODES, MOST_RATE, MOST_RATE_HUNDREDTHS, MOST_STATES, SHEET_BYTES, SHEET_DIGITS, most_hundredths)
 from reckoning.sheets import LABELS, MOVES, MOVES_LINE, NO_MOVES, labels_text, moves_text, until
 
 
@@ -54,13 +54,18 @@ def rates(total):
     return moves_text([(0, 1, half), (0, 2, total - half)]), labels_text([], [[]] * 3), b"tt\n"
 
 
-def load(rate, hours):
-    """A greatest exit rate, and an until over so many hours."""
-    return moves_text([(0, 1, rate)]), LABELS, until(hours)
+def load(rate, hundredths):
+    """A greatest exit rate, and an until over so many hundredths of an hour."""
+    return moves_text([(0, 1, rate)]), LABELS, until(hundredths)
+
+
+def hours(typed):
+    """An until whose hours are typed so."""
+    return small(b"P < 1 U %s up dead" % typed)
 
 
 def threshold(number):
-    return MOVES, LABELS, until(1, threshold=number)
+    return MOVES, LABELS, until(HOUR, threshold=number)
 
 
 def formula_bytes(count):
@@ -91,7 +96,7 @@ def about(job, limit):
 
 def pairs():
     """For each limit a job that meets it and one that passes it."""
-    near = MOST_RATE_HOURS // 401 + 1                   # with 401 hours it passes the limit by as little as can be
+    near = MOST_RATE_HUNDREDTHS // 1_517 + 1            # with 15.17 hours it passes the limit by 1
     return {
         "states": about(states, MOST_STATES),
         "moves": about(moves, MOST_MOVES),
@@ -104,9 +109,11 @@ def pairs():
         "levels": about(levels, MOST_LEVELS),
         "nodes": about(nodes, MOST_NODES),
         "rates": about(rates, MOST_RATE),
-        "load": about(lambda hours: load(MOST_RATE, hours), most_hours(MOST_RATE)),
-        "load by one": (load(MOST_RATE_HOURS // 400, 400), load(near, 401)),
-        "hours": about(lambda hours: load(1, hours), MOST_HOURS),
+        "load": about(lambda hundredths: load(MOST_RATE, hundredths), most_hundredths(MOST_RATE)),
+        "load by one": (load(MOST_RATE_HUNDREDTHS // 1_600, 1_600), load(near, 1_517)),
+        "hours": about(lambda hundredths: load(1, hundredths), MOST_HUNDREDTHS),
+        "decimals": (hours(b"8.25"), hours(b"8.125")),
+        "the last decimal": (hours(b"8.05"), hours(b"8.50")),
         "threshold": about(threshold, BILLION),
         "digits in the formula": (threshold(BILLION), threshold(10**FORMULA_DIGITS)),
         "digits in moves": (typed(b"0,1," + b"9" * SHEET_DIGITS), typed(b"0,1,1" + b"0" * SHEET_DIGITS)),

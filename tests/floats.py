@@ -6,7 +6,7 @@ from math import exp
 from operator import ge, gt, le, lt
 
 from reckoning.formula import And, Label, Not, P, bounds, operands, read_formula
-from reckoning.limits import BILLION, RATE_HOURS
+from reckoning.limits import BILLION, HOUR, RATE_HOURS
 
 NEGLIGIBLE = 1e-13          # of the weights, left out at the end
 COMPARED = {b"<": lt, b"<=": le, b">=": ge, b">": gt}
@@ -40,7 +40,7 @@ class Floats:
 
     def chance(self, node):
         """The probability of a `P`, at each state."""
-        return self.until(node.path.hours, *map(self.holds, operands(node)))
+        return self.until(node.path.hundredths / HOUR, *map(self.holds, operands(node)))
 
     def until(self, hours, first, second):
         """The probability of an until at each state."""

@@ -4,13 +4,13 @@ A job is a tuple of the three texts (moves, labels, formula) as bytes.
 """
 from reckoning.bracket import bracket
 from reckoning.chain import Chain
-from reckoning.formula import COMPARISONS
-from reckoning.limits import BILLION, MOST_LETTERS, MOST_LOAD, MOST_RATE, RATE_HOURS, most_hours
+from reckoning.formula import COMPARISONS, hours_text
+from reckoning.limits import BILLION, HOUR, MOST_LETTERS, MOST_LOAD, MOST_RATE, RATE_HUNDREDTHS, most_hundredths
 from reckoning.sheets import labels_text, moves_text
 
 NAMES = [b"up", b"dead", b"power", b"gamma", b"locator", b"gun", b"wet", b"hot", b"t", b"ta", b"tta", b"s", b"stat", b"states",
          b"abcdefghijklmnopqrstuvwxyz"[:MOST_LETTERS]]
-TELLING = b"0123456789,\n aPU!&tx<=>z/:`{+-\x1f\r\t\x00\x8a\xff"    # bytes that mean something, and those just beside them
+TELLING = b"0123456789,.\n aPU!&tx<=>z/:`{+-\x1f\r\t\x00\x8a\xff"    # bytes that mean something, and those just beside them
 
 
 class Sheet:
@@ -41,10 +41,10 @@ class Sheet:
     def marks(self, name):
         return tuple(bool(row[self.names.index(name)]) for row in self.rows)
 
-    def hours(self, rng, most_load=MOST_LOAD):
-        """Hours whose load is at most `most_load`."""
-        most = most_hours(self.chain.q, most_load * RATE_HOURS)
-        return rng.choice([0, most, rng.randint(0, most)])
+    def hundredths(self, rng, most_load=MOST_LOAD):
+        """Hundredths of an hour whose load is at most `most_load`, often whole hours."""
+        most = most_hundredths(self.chain.q, most_load * RATE_HUNDREDTHS)
+        return rng.choice([0, most, rng.randint(0, most), rng.randint(0, most // HOUR) * HOUR])
 
 
 def random_formula(rng, sheet, levels, most_load):
@@ -60,30 +60,30 @@ def random_formula(rng, sheet, levels, most_load):
     second = random_formula(rng, sheet, levels - 1, most_load)
     if kind == "&":
         return [b"&", *first, *second]
-    hours = sheet.hours(rng, most_load)
-    threshold = rng.choice([0, 1, BILLION, rng.randint(0, BILLION), near(rng, sheet, hours)])
-    return [b"P", rng.choice(COMPARISONS), b"%d" % threshold, b"U", b"%d" % hours, *first, *second]
+    hundredths = sheet.hundredths(rng, most_load)
+    threshold = rng.choice([0, 1, BILLION, rng.randint(0, BILLION), near(rng, sheet, hundredths)])
+    return [b"P", rng.choice(COMPARISONS), b"%d" % threshold, b"U", hours_text(hundredths), *first, *second]
 
 
-def near(rng, sheet, hours):
+def near(rng, sheet, hundredths):
     """A threshold that lies close to some until's probability, so that verdicts come out undecided."""
     first, second = (sheet.marks(rng.choice(sheet.names)) for _ in range(2))
-    bounds = rng.choice(bracket(sheet.chain, first, second, hours))
+    bounds = rng.choice(bracket(sheet.chain, first, second, hundredths))
     return max(0, min(BILLION, bounds.down + rng.randint(-1, 2)))
 
 
-def near_formula(rng, sheet, hours):
+def near_formula(rng, sheet, hundredths):
     """An until whose threshold is one of the two whole billionths about its own probability at some state."""
     names = rng.choice(sheet.names), rng.choice(sheet.names)
-    bounds = rng.choice(bracket(sheet.chain, *map(sheet.marks, names), hours))
-    return [b"P", rng.choice(COMPARISONS), b"%d" % rng.choice(bounds), b"U", b"%d" % hours, *names]
+    bounds = rng.choice(bracket(sheet.chain, *map(sheet.marks, names), hundredths))
+    return [b"P", rng.choice(COMPARISONS), b"%d" % rng.choice(bounds), b"U", hours_text(hundredths), *names]
 
 
 def random_job(rng, most_states=6, levels=4, most_load=3):
     sheet = Sheet(rng, most_states)
     if rng.random() < 0.3:
-        inner = near_formula(rng, sheet, sheet.hours(rng, most_load))
-        outer = [b"P", rng.choice(COMPARISONS), b"%d" % rng.randint(0, BILLION), b"U", b"%d" % sheet.hours(rng, most_load)]
+        inner = near_formula(rng, sheet, sheet.hundredths(rng, most_load))
+        outer = [b"P", rng.choice(COMPARISONS), b"%d" % rng.randint(0, BILLION), b"U", hours_text(sheet.hundredths(rng, most_load))]
         other = [rng.choice(sheet.names)]
         tokens = outer + (inner + other if rng.random() < 0.5 else other + inner)
     else:

@@ -4,18 +4,21 @@ Unlike `jobs.damaged`, which breaks the layout more often than not, most of thes
 """
 import re
 
-from reckoning.formula import COMPARISONS
-from reckoning.limits import BILLION, FORMULA_DIGITS, MOST_HOURS, MOST_MOVES, MOST_NODES, MOST_RATE, MOST_STATES, RATE_HOURS, SPARE_STEPS
+from reckoning.formula import COMPARISONS, hours_text
+from reckoning.limits import (BILLION, FORMULA_DIGITS, HOUR, MOST_HUNDREDTHS, MOST_MOVES, MOST_NODES, MOST_RATE, MOST_STATES, RATE_HOURS,
+                              SPARE_STEPS)
 from reckoning.refusal import Lent, needed, refusal
 from tests.jobs import damaged, random_job
 from tests.library import ENOUGH, MORE
 
 SEPARATORS = re.compile(rb"([, \n])")
 NUMBERS = [b"%d" % number for number in (
-    0, 1, 2, 3, 5, SPARE_STEPS, MOST_NODES, MOST_STATES - 1, MOST_STATES, MOST_MOVES, MOST_HOURS, MOST_HOURS + 1, RATE_HOURS, MOST_RATE - 1,
+    0, 1, 2, 3, 5, SPARE_STEPS, MOST_NODES, MOST_STATES - 1, MOST_STATES, MOST_MOVES, MOST_HUNDREDTHS // HOUR, MOST_HUNDREDTHS // HOUR + 1, RATE_HOURS, MOST_RATE - 1,
     MOST_RATE, MOST_RATE + 1, BILLION - 1, BILLION, BILLION + 1, 10**FORMULA_DIGITS - 1, 10**FORMULA_DIGITS)]
+HOURS = [*map(hours_text, (1, 50, 825, 850, MOST_HUNDREDTHS - 1, MOST_HUNDREDTHS + 1)), b"8.50", b"8.0", b"8.", b".5", b"00.5", b"8.125", b"8.2.5",
+         b"9999999999.99", b"10000000000.5"]
 WORDS = [b"tt", b"state", b"up", b"dead", b"t", b"tta", b"abcdefghijkl", b"abcdefghijklm", b"", b"00", b"01", b"U", b"\xff"]
-OPERATORS = [b"! ", b"& tt ", b"& up ", b"P < 1 U 1 tt ", b"P >= 500000000 U %d up " % MOST_HOURS, b"P > 0 U 0 "]
+OPERATORS = [b"! ", b"& tt ", b"& up ", b"P < 1 U 1 tt ", b"P >= 500000000 U %s up " % hours_text(MOST_HUNDREDTHS), b"P > 0 U 0 "]
 MOST_CHANGES = 4
 MOST_DIGITS = 20
 
@@ -25,7 +28,8 @@ def with_token(rng, text):
     parts = SEPARATORS.split(text)
     at = rng.randrange(0, len(parts), 2)
     begun = parts[at][:rng.randint(0, len(parts[at]))]
-    parts[at] = rng.choice([begun, rng.choice(parts[::2]), rng.choice(NUMBERS), rng.choice(WORDS), rng.choice(COMPARISONS)])
+    parts[at] = rng.choice([begun, rng.choice(parts[::2]), rng.choice(NUMBERS), rng.choice(HOURS), rng.choice(WORDS),
+                            rng.choice(COMPARISONS)])
     return b"".join(parts)
 
 

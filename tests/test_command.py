@@ -4,7 +4,7 @@ import subprocess
 import tempfile
 import unittest
 
-from reckoning.limits import MOST_HOURS, MOST_LEVELS, MOST_MOVES, MOST_RATE
+from reckoning.limits import HOUR, MOST_HUNDREDTHS, MOST_LEVELS, MOST_MOVES, MOST_RATE
 from reckoning.refusal import refusal
 from reckoning.report import refused
 from reckoning.sheets import LABELS, MOVES, REPORT_LINE
@@ -30,8 +30,8 @@ TURNED_BACK = {
     10: small(b"& up"),
     11: levels(MOST_LEVELS + 1),
     12: small(b"gas"),
-    13: load(500, MOST_HOURS + 1),
-    14: load(MOST_RATE, 2),
+    13: load(500, MOST_HUNDREDTHS + 1),
+    14: load(MOST_RATE, HOUR + 1),
 }
 
 

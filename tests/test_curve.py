@@ -93,24 +93,30 @@ class Curve(unittest.TestCase):
         (x_unit, x_zero), (y_unit, y_zero) = picture.scale("x"), picture.scale("y")
         for kind in ("lower", "upper"):
             for (x, y), (hours, row) in zip(picture.places(kind), rows.items(), strict=True):
-                self.assertAlmostEqual(x, x_zero + x_unit * hours, delta=PIXEL)
+                self.assertAlmostEqual(x, x_zero + x_unit * float(hours), delta=PIXEL)
                 self.assertAlmostEqual(y, y_zero + y_unit * getattr(row, kind) / BILLION, delta=PIXEL)
         self.assertEqual(picture.marks(), [(str(hours), str(row.lower), str(row.upper), row.verdict) for hours, row in rows.items()])
 
     def rows(self, folder, formula, hours, state):
-        """The rows of one state as the stand-in prints them; the formula has %d for the hours."""
+        """The rows of one state as the stand-in prints them; the formula has %s for the hours."""
         moves, labels, _ = read_texts(folder)
-        printed = {each: answer(moves, labels, formula % each) for each in hours}
+        printed = {each: answer(moves, labels, formula % str(each).encode()) for each in hours}
         states = len(labels.splitlines()) - 1
         return {each: read_report(text, states)[state] for each, text in printed.items()}
 
     def test_shows_the_ends(self):
         folder = EXAMPLES / "gun-string"
         picture = self.drawn(folder, "0", "8", "24", "48")
-        self.shows(picture, self.rows(folder, b"P <= 10000000 U %d power lost\n", (0, 8, 24, 48), 0))
+        self.shows(picture, self.rows(folder, b"P <= 10000000 U %s power lost\n", (0, 8, 24, 48), 0))
         for words in ("gun-string", "state 0: collar good, gamma good, power up", "P <= 10000000 U t power lost",
                       "hours", "probability", "lower end", "upper end", "threshold 0.01"):
             self.assertIn(words, picture.words())
+
+    def test_quarter_hours(self):
+        """As `seq` types them, with two decimals each, or however else."""
+        folder = EXAMPLES / "gun-string"
+        picture = self.drawn(folder, "8.00", "8.25", "8.50", "8.750", "09")
+        self.shows(picture, self.rows(folder, b"P <= 10000000 U %s power lost\n", (8, "8.25", "8.5", "8.75", 9), 0))
 
     def test_threshold(self):
         picture = self.drawn(EXAMPLES / "gun-string", "8", "48")
@@ -124,27 +130,27 @@ class Curve(unittest.TestCase):
     def test_inner_hours_stay(self):
         folder = EXAMPLES / "redundant-string"
         picture = self.drawn(folder, "72", "12", "12", "--state", "32")
-        formula = b"P <= 150000000 U %d & power modem P > 2000000 U 8 & power modem ! depth\n"
+        formula = b"P <= 150000000 U %s & power modem P > 2000000 U 8 & power modem ! depth\n"
         self.shows(picture, self.rows(folder, formula, (12, 72), 32))
 
     def test_until_under_an_implication(self):
         folder = EXAMPLES / "polling-3"
         picture = self.drawn(folder, "50", "100", "--state", "17")
-        self.shows(picture, self.rows(folder, b"P >= 900000000 U %d tt pollone\n", (50, 100), 17))
+        self.shows(picture, self.rows(folder, b"P >= 900000000 U %s tt pollone\n", (50, 100), 17))
 
     def test_ends_apart(self):
         """An undecided operand drives the ends apart."""
         with tempfile.TemporaryDirectory() as folder:
             put((*texts(row(60, 20_000)), b"P >= 600000000 U 5 tt P > 0 U 1 up dead\n"), folder)
             picture = self.drawn(folder, "100", "300", "--state", "50")
-            self.shows(picture, self.rows(folder, b"P >= 600000000 U %d tt P > 0 U 1 up dead\n", (100, 300), 50))
+            self.shows(picture, self.rows(folder, b"P >= 600000000 U %s tt P > 0 U 1 up dead\n", (100, 300), 50))
             self.assertIn("state 50", picture.words())
 
     def test_one_point_and_flat_curves(self):
         with tempfile.TemporaryDirectory() as folder:
             put((MOVES, LABELS, b"P >= 0 U 0 up dead\n"), folder)
-            self.shows(self.drawn(folder, "0"), self.rows(folder, b"P >= 0 U %d up dead\n", (0,), 0))
-            self.shows(self.drawn(folder, "5", "--state", "1"), self.rows(folder, b"P >= 0 U %d up dead\n", (5,), 1))
+            self.shows(self.drawn(folder, "0"), self.rows(folder, b"P >= 0 U %s up dead\n", (0,), 0))
+            self.shows(self.drawn(folder, "5", "--state", "1"), self.rows(folder, b"P >= 0 U %s up dead\n", (5,), 1))
 
     def test_written_to_a_file(self):
         with tempfile.TemporaryDirectory() as folder:
@@ -189,7 +195,7 @@ class NoPicture(unittest.TestCase):
         self.refuses("no state 0", EXAMPLES / "small", "1", run=short)
 
     def test_arguments(self):
-        for given in (("x",), ("-1",), ("1e3",), ("1", "--state", "up"), ()):
+        for given in (("x",), ("-1",), ("1e3",), ("8.125",), ("8.",), (".5",), ("1", "--state", "up"), ()):
             with self.subTest(given):
                 self.assertEqual(curve(EXAMPLES / "small", *given)[0], 2)
 

@@ -1,14 +1,15 @@
 """The definitions compute, and agree with the second reckoning, on a job for each number and some accepted; and they do not prove what is false."""
 import unittest
 
-from reckoning.limits import MOST_HOURS, MOST_LEVELS, MOST_RATE, MOST_STATES, RATE_HOURS
+from reckoning.formula import hours_text
+from reckoning.limits import HOUR, MOST_HUNDREDTHS, MOST_LEVELS, MOST_RATE, MOST_STATES, RATE_HOURS
 from reckoning.refusal import Job, lengths, refusal
 from reckoning.sheets import FULL_MOVES, LABELS, MOVES, MOVES_LINE, labels_text, moves_text, until
 from tests import definitions
 
 # moves, labels, formula, lent lengths
 JOBS = (
-    (MOVES, LABELS, b"P <= 10000000 U 8 up P > 7 U %d up ! dead\n" % MOST_HOURS, None),
+    (MOVES, LABELS, b"P <= 10000000 U 8.25 up P > 7 U %s up ! dead\n" % hours_text(MOST_HUNDREDTHS), None),
     (MOVES[:-1], LABELS, b"up\n", None),
     (MOVES_LINE + b"0,1,05\n", LABELS, b"up\n", None),
     (MOVES, b"state,up,up\n0,1,0\n1,0,1\n", b"up\n", None),
@@ -18,12 +19,13 @@ JOBS = (
     (moves_text([(1, 0, 5), (0, 1, 5)]), LABELS, b"up\n", None),
     (moves_text([(0, 1, MOST_RATE + 1)]), LABELS, b"up\n", None),
     (MOVES, LABELS, b"& up\n", None),
+    (MOVES, LABELS, b"P < 1 U 8.50 up dead\n", None),
     (MOVES, LABELS, b"! " * MOST_LEVELS + b"up\n", None),
     (MOVES, LABELS, b"& up gas\n", None),
-    (MOVES, LABELS, until(MOST_HOURS + 1), None),
-    (FULL_MOVES, LABELS, until(2), None),
-    (moves_text([(0, 1, RATE_HOURS)]), LABELS, until(63), lengths(2, 1, 3)),
-    (MOVES, LABELS, until(1), lengths(2, 1, 3)._replace(marks=5)),
+    (MOVES, LABELS, until(MOST_HUNDREDTHS + 1), None),
+    (FULL_MOVES, LABELS, until(HOUR + 1), None),
+    (moves_text([(0, 1, RATE_HOURS)]), LABELS, until(6_325), lengths(2, 1, 3)),
+    (MOVES, LABELS, until(HOUR), lengths(2, 1, 3)._replace(marks=5)),
     (b"", LABELS, b"up\n", None),
     (MOVES, labels_text([], [[]] * (MOST_STATES + 1)), b"tt\n", None),
 )

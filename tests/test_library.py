@@ -4,7 +4,8 @@ import unittest
 from concurrent.futures import ThreadPoolExecutor
 
 from reckoning.__main__ import read_texts
-from reckoning.limits import MOST_HOURS, MOST_MOVES, MOST_NODES, MOST_RATE
+from reckoning.formula import hours_text
+from reckoning.limits import HOUR, MOST_HUNDREDTHS, MOST_MOVES, MOST_NODES, MOST_RATE
 from reckoning.refusal import Lent, lengths, needed, refusal
 from reckoning.sheets import NO_MOVES, moves_text
 from tests import edges
@@ -91,9 +92,9 @@ class EveryByte(LibraryTest):
         (moves_text([(123_456_789, 987_654_321, 555_555_555)]), b"state\n0\n", b"tt\n"),
         (NO_MOVES, b"state\n123456789\n", b"tt\n"),
         (NO_MOVES, b"state\n0\n", b"P < 1987654321 U 1876543219 tt ! & tt tt\n"),
-        (NO_MOVES, b"state,ta\n0,1\n", b"P <= 1000000000 U %d ta ! ta\n" % MOST_HOURS),
+        (NO_MOVES, b"state,ta\n0,1\n", b"P <= 1000000000 U %s ta ! ta\n" % hours_text(MOST_HUNDREDTHS - 75)),
     )
-    ALWAYS = b"/09:`az{,\n \x00\xff"
+    ALWAYS = b"./09:`az{,\n \x00\xff"
 
     def changed(self):
         """Every sheet with one change in one of its texts."""
@@ -118,7 +119,7 @@ class Buffers(LibraryTest):
         """Jobs whose six lengths are all above 0, and the lengths."""
         rng = random.Random(14)
         jobs = [read_texts(folder) for folder in FOLDERS] + [random_job(rng) for _ in range(25)]
-        jobs += [edges.load(MOST_RATE, 1), edges.moves(MOST_MOVES), edges.nodes(MOST_NODES)]
+        jobs += [edges.load(MOST_RATE, HOUR), edges.moves(MOST_MOVES), edges.nodes(MOST_NODES)]
         found = [(job, needed(refusal(*job))) for job in jobs]
         return [(job, need) for job, need in found if need.moves]
 

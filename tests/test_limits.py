@@ -6,7 +6,7 @@ from reckoning import limits
 from tests.library import ENOUGH
 from tests.places import ROOT
 
-DEFINED = re.compile(r"^(\w+) = (\d+)$", re.MULTILINE)
+DEFINED = re.compile(r"^(\w+) = (\d+)(?: \* (\w+))?$", re.MULTILINE)
 HEADER = re.compile(r"^#define SEBDYQUL_(\w+) (\d+)$", re.MULTILINE)
 RUST = re.compile(r"^pub const (\w+): usize = ([\d_]+);$", re.MULTILINE)
 LENT = {"RESULTS": ENOUGH.lower, "WORDS": ENOUGH.moves, "VECTORS": ENOUGH.vectors, "MARKS": ENOUGH.marks}
@@ -17,6 +17,14 @@ def numbers(pattern, path):
     return {name: int(number) for name, number in pattern.findall((ROOT / path).read_text())}
 
 
+def definitions(path):
+    """The numbers that a file defines, where one is a number times another that stands before it."""
+    found = {}
+    for name, number, unit in DEFINED.findall((ROOT / path).read_text()):
+        found[name] = int(number) * found.get(unit, 1)
+    return found
+
+
 def in_python(name):
     """The name of a definition as the second reckoning has it: mostRate is MOST_RATE."""
     return re.sub(r"(?=[A-Z])", "_", name).upper()
@@ -25,9 +33,9 @@ def in_python(name):
 class Limits(unittest.TestCase):
     def test_definitions(self):
         """Each limit that both have under one name."""
-        found = numbers(DEFINED, "crates/csl/specs/Limits.antt")
+        found = definitions("crates/csl/specs/Limits.antt")
         both = {name: number for name, number in found.items() if hasattr(limits, in_python(name))}
-        self.assertGreater(len(both), 15)
+        self.assertGreater(len(both), 16)
         for name, number in both.items():
             with self.subTest(name):
                 self.assertEqual(number, getattr(limits, in_python(name)))

@@ -6,8 +6,8 @@ from pathlib import Path
 
 from bench import sheets
 from reckoning.__main__ import FILES
-from reckoning.formula import COMPARISONS
-from reckoning.limits import BILLION, MOST_HOURS, MOST_RATE, MOST_RATE_HOURS, RATE_HOURS, most_hours
+from reckoning.formula import COMPARISONS, hours_text
+from reckoning.limits import BILLION, HOUR, MOST_HUNDREDTHS, MOST_RATE, MOST_RATE_HUNDREDTHS, RATE_HOURS, most_hundredths
 from reckoning.report import read_report
 from reckoning.sheets import labels_text, moves_text
 from tests.jobs import Sheet
@@ -45,7 +45,7 @@ class Narrow(unittest.TestCase):
 
     def test_loads(self):
         rng = random.Random(6)
-        whole = [(RATE_HOURS, hours) for hours in range(1, most_hours(RATE_HOURS) + 1)]
+        whole = [(RATE_HOURS, hundredths) for hundredths in range(HOUR, most_hundredths(RATE_HOURS) + 1, HOUR)]
         self.narrow(load_job(*load) for load in whole + [random_load(rng) for _ in range(LOADS)])
 
 
@@ -64,15 +64,15 @@ def bench_jobs(folder):
             yield moves, labels, sheets.until(hours).encode() + b"\n"
 
 
-def until(rng, hours, first, second):
+def until(rng, hundredths, first, second):
     """An until over two labels, which no state leaves undecided."""
-    return b"P %s %d U %d %s %s\n" % (rng.choice(COMPARISONS), rng.randint(0, BILLION), hours, first, second)
+    return b"P %s %d U %s %s %s\n" % (rng.choice(COMPARISONS), rng.randint(0, BILLION), hours_text(hundredths), first, second)
 
 
 def made_job(rng):
     """A random sheet with an until over two of its labels."""
     sheet = Sheet(rng, 8)
-    return sheet.moves_text, sheet.labels_text, until(rng, sheet.hours(rng), rng.choice(sheet.names), rng.choice(sheet.names))
+    return sheet.moves_text, sheet.labels_text, until(rng, sheet.hundredths(rng), rng.choice(sheet.names), rng.choice(sheet.names))
 
 
 def line_job(states):
@@ -83,10 +83,10 @@ def line_job(states):
 
 def ring_job(rng):
     """A ring with rates from 1 up to what the hours allow."""
-    states, hours = rng.randint(3, 20), rng.choice([1, 8, 720, MOST_HOURS])
-    most = min(MOST_RATE - 1, MOST_RATE_HOURS // hours)
+    states, hundredths = rng.randint(3, 20), rng.choice([HOUR, 825, 720 * HOUR, MOST_HUNDREDTHS])
+    most = min(MOST_RATE - 1, MOST_RATE_HUNDREDTHS // hundredths)
     moves = sorted((s, (s + 1) % states, rng.choice([1, 7, most // 3 + 1, most])) for s in range(states))
-    return moves_text(moves), ends_text(states), b"P < 500000000 U %d tt last\n" % hours
+    return moves_text(moves), ends_text(states), b"P < 500000000 U %s tt last\n" % hours_text(hundredths)
 
 
 def ends_text(states):
@@ -99,10 +99,11 @@ def chain_job(rng):
     states, top = rng.randint(2, 8), rng.choice([MOST_RATE, rng.randint(2, MOST_RATE), rng.randint(2, 1_000)])
     rows = [row_of(rng, s, states, top) for s in range(states)]
     exits = [sum(rate for _, rate in row) for row in rows]
-    hours = rng.choice([1, most_hours(max(exits)), rng.randint(1, most_hours(max(exits)))])
+    most = most_hundredths(max(exits))
+    hundredths = rng.choice([min(HOUR, most), most, rng.randint(1, most)])
     marks = [rng.choice([[0, 0], [1, 0], [1, 0], [1, 0], [0, 1]]) for _ in range(states)]
     moves = sorted((s, to, rate) for s, row in enumerate(rows) for to, rate in row)
-    return moves_text(moves), labels_text([b"first", b"second"], marks), until(rng, hours, b"first", b"second")
+    return moves_text(moves), labels_text([b"first", b"second"], marks), until(rng, hundredths, b"first", b"second")
 
 
 def row_of(rng, state, states, top):
@@ -119,15 +120,16 @@ def row_of(rng, state, states, top):
 
 
 def random_load(rng):
-    """A rate and hours, the rate of any size."""
+    """A rate and hundredths of an hour, the rate of any size."""
     rate = rng.choice([rng.randint(1, MOST_RATE), rng.randint(1, 64_000), 2 ** rng.randint(0, 25)])
-    return rate, rng.choice([1, most_hours(rate), rng.randint(1, most_hours(rate))])
+    most = most_hundredths(rate)
+    return rate, rng.choice([min(HOUR, most), most, rng.randint(1, most)])
 
 
-def load_job(rate, hours):
+def load_job(rate, hundredths):
     """Three states on the way to a dead one, the first left at the full rate, the others at a half and a third of it."""
     moves = [(0, 1, rate), (1, 2, rate // 2 + 1), (2, 3, rate // 3 + 1)]
-    return moves_text(moves), ends_text(4), b"P < 500000000 U %d tt last\n" % hours
+    return moves_text(moves), ends_text(4), b"P < 500000000 U %s tt last\n" % hours_text(hundredths)
 
 
 if __name__ == "__main__":

@@ -5,7 +5,7 @@ import subprocess
 import unittest
 
 from reckoning.judge import judge
-from reckoning.limits import BILLION, MOST_HOURS, MOST_LEVELS
+from reckoning.limits import BILLION, HOUR, MOST_HUNDREDTHS, MOST_LEVELS
 from reckoning.report import read_report, refused
 from reckoning.sheets import FAST_MOVES, FORMULA, FULL_MOVES, HOURS_8, LABELS, MOVES, NO_MOVES, REPORT, until
 from tests import edges
@@ -62,13 +62,28 @@ class Program(unittest.TestCase):
         self.assertGreaterEqual(first.upper, 3_992_011)
         self.assertLessEqual(first.upper - first.lower, 168)
         self.assertEqual((first.depth, first.verdict), (42, "yes"))
-        self.assertEqual({row.depth for row in rows(until(1), FAST_MOVES)}, {168})
-        self.assertEqual(run((FULL_MOVES, LABELS, until(2))), refused(14))
-        still = rows(until(MOST_HOURS), NO_MOVES)
+        self.assertEqual({row.depth for row in rows(until(HOUR), FAST_MOVES)}, {168})
+        self.assertEqual(run((FULL_MOVES, LABELS, until(2 * HOUR))), refused(14))
+        still = rows(until(MOST_HUNDREDTHS), NO_MOVES)
         self.assertEqual([(row.lower, row.upper, row.depth) for row in still], [(0, 0, 40), (BILLION, BILLION, 40)])
         self.assertEqual(len(rows(b"! " * (MOST_LEVELS - 1) + b"up\n")), 2)
         self.assertEqual(run(edges.levels(MOST_LEVELS + 1)), refused(11))
         self.assertEqual([row.verdict for row in rows(b"P >= 0 U 1 up dead\n")], ["yes"] * 2)
+
+    def test_hours_with_decimals(self):
+        """Quarter hours lie between the hours about them; a trailing zero, a third decimal or a lonely point breaks the grammar."""
+        def asked(hours):
+            return MOVES, LABELS, b"P <= 10000000 U %s up dead\n" % hours
+        lows = [read_report(run(asked(hours)), 2)[0].lower for hours in (b"8", b"8.05", b"8.25", b"8.5", b"8.75", b"9")]
+        self.assertEqual(lows, sorted(set(lows)))
+        for hours in (b"0.05", b"8.25", b"8.5", b"8759.99"):
+            self.assertEqual(judge(*asked(hours), run(asked(hours))), [])
+        for hours in (b"8.50", b"8.0", b"8.", b".5", b"00.5", b"8.125", b"8.2.5"):
+            self.assertEqual(run(asked(hours)), refused(10), hours)
+        self.assertEqual(run((MOVES, LABELS, b"P <= 0.5 U 8 up dead\n")), refused(10))
+        for hours in (b"8760.01", b"9999999999.99"):
+            self.assertEqual(run(asked(hours)), refused(13))
+        self.assertEqual(run((FULL_MOVES, LABELS, until(HOUR + 1))), refused(14))
 
     def test_stack_of_the_deepest_formulas(self):
         limit = lambda: resource.setrlimit(resource.RLIMIT_STACK, (READING_STACK, READING_STACK))

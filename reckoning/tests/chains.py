@@ -1,7 +1,7 @@
 """Chains for the tests, made and random, with their texts."""
 
 from reckoning.chain import Chain, until
-from reckoning.limits import MOST_RATE, RATE_HOURS, most_hours
+from reckoning.limits import HOUR, MOST_RATE, RATE_HOURS, most_hundredths
 from reckoning.sheets import labels_text, moves_text
 
 
@@ -35,14 +35,14 @@ def reading(chain):
     return chain.marks[b"up"], chain.marks[b"dead"]
 
 
-def random_hours(random, chain):
-    """Hours that keep q x t within the limit, 0 among them."""
-    most = most_hours(chain.q)
-    return random.choice((0, 1, random.randint(0, most), most))
+def random_hundredths(random, chain):
+    """Hundredths of an hour that keep q x t within the limit, 0 and a whole hour among them."""
+    most = most_hundredths(chain.q)
+    return random.choice((0, min(HOUR, most), random.randint(0, most), most))
 
 
 def random_untils(random, count):
     """So many random chains, each with an until of `up` and `dead` as a phase."""
     for _ in range(count):
         chain = random_chain(random)
-        yield chain, until(*reading(chain), random_hours(random, chain))
+        yield chain, until(*reading(chain), random_hundredths(random, chain))

@@ -14,7 +14,7 @@ from reckoning.refusal import refusal
 from reckoning.limits import BILLION
 from reckoning.report import ENDS_OF
 from reckoning.sheets import LABELS, MOVES, REPORT_LINE
-from reckoning.tests.chains import random_chain, random_hours, row, texts
+from reckoning.tests.chains import random_chain, random_hundredths, row, texts
 from reckoning.verdict import WORDS, both, negate, of_ends
 
 NEAR = b"P >= 3992000 U 8 up dead"      # the limit is about 3,992,010.656: yes or undecided
@@ -62,11 +62,11 @@ def random_formula(random, chain, levels):
     parts = [random_formula(random, chain, levels - 1) for _ in range(1 if kind == "!" else 2)]
     if kind != "P":
         return b" ".join([kind.encode(), *parts])
-    hours = random_hours(random, chain)
-    near = random.choice(Rules(chain).bounds(f.Until(hours, None, None), chain.marks[b"up"],
+    hundredths = random_hundredths(random, chain)
+    near = random.choice(Rules(chain).bounds(f.Until(hundredths, None, None), chain.marks[b"up"],
                                              chain.marks[b"dead"])).down
     threshold = min(BILLION, max(0, near + random.randint(-60, 60)))
-    return b" ".join([b"P", random.choice(f.COMPARISONS), b"%d U %d" % (threshold, hours), *parts])
+    return b" ".join([b"P", random.choice(f.COMPARISONS), b"%d U %s" % (threshold, f.hours_text(hundredths)), *parts])
 
 
 def random_jobs(random, count, levels, states=(2, 4)):

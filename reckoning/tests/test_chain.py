@@ -8,18 +8,18 @@ from random import Random
 
 from reckoning.bracket import Run
 from reckoning.chain import Chain, Phase, depth, quotients, step_values, until, weights
-from reckoning.limits import MOST_HOURS, MOST_RATE, MOST_RATE_HOURS, RATE_HOURS, SPARE_STEPS
-from reckoning.tests.chains import random_chain, random_hours, random_untils, reading, row
+from reckoning.limits import HOUR, MOST_HUNDREDTHS, MOST_RATE, MOST_RATE_HUNDREDTHS, RATE_HOURS, RATE_HUNDREDTHS, SPARE_STEPS
+from reckoning.tests.chains import random_chain, random_hundredths, random_untils, reading, row
 
 
 def first_weights(load, count):
     return list(islice(weights(load), count))
 
 
-def float_until(chain, first, second, hours):
+def float_until(chain, first, second, hundredths):
     """The until probability as a matrix power of e in floats: halve the time, add terms, square."""
     n, halvings = chain.states, 20
-    time = hours / RATE_HOURS / 2 ** halvings
+    time = hundredths / RATE_HUNDREDTHS / 2 ** halvings
     inner = [first[s] and not second[s] for s in range(n)]
     small = [[time * (chain.rates.get((a, b), 0) - (a == b) * chain.exits[a]) if inner[a] else 0.0
               for b in range(n)] for a in range(n)]
@@ -46,7 +46,8 @@ class Depth(unittest.TestCase):
     def test_q_is_the_whole_sheets(self):
         chain = Chain(3, {(0, 1): 5, (1, 0): 4, (1, 2): 7}, {})
         self.assertEqual((chain.exits, chain.q), ([5, 11, 0], 11))
-        self.assertEqual(chain.load(8), Fraction(88, RATE_HOURS))
+        self.assertEqual(chain.load(8 * HOUR), Fraction(88, RATE_HOURS))
+        self.assertEqual(chain.load(825), Fraction(11 * 825, RATE_HUNDREDTHS))
 
     def test_weights(self):
         self.assertEqual(first_weights(Fraction(0), 3), [1, 0, 0])
@@ -55,8 +56,8 @@ class Depth(unittest.TestCase):
 
     def test_weights_halve_in_the_spare_steps(self):
         random = Random(1)
-        loads = [Fraction(random.randint(0, MOST_RATE_HOURS), RATE_HOURS) for _ in range(20)]
-        loads.append(Fraction(MOST_RATE_HOURS, RATE_HOURS))
+        loads = [Fraction(random.randint(0, MOST_RATE_HUNDREDTHS), RATE_HUNDREDTHS) for _ in range(20)]
+        loads.append(Fraction(MOST_RATE_HUNDREDTHS, RATE_HUNDREDTHS))
         for load in loads:
             last = first_weights(load, depth(load) + 20)[depth(load) - SPARE_STEPS:]
             self.assertTrue(all(2 * after <= before for before, after in zip(last, last[1:])))
@@ -65,19 +66,19 @@ class Depth(unittest.TestCase):
 class StepValues(unittest.TestCase):
     def test_until_by_hand(self):
         chain = Chain(3, {(0, 1): 1, (0, 2): 1, (1, 0): 1}, {})
-        values = step_values(chain, until((True, True, False), (False, False, True), 1))
+        values = step_values(chain, until((True, True, False), (False, False, True), HOUR))
         half, quarter = Fraction(1, 2), Fraction(1, 4)
         self.assertEqual(list(islice(values, 4)), [[0, 0, 1], [half, 0, 1], [half, quarter, 1],
                                                    [half + quarter / 2, half * half + quarter / 2, 1]])
 
     def test_only_the_second_holds(self):
         chain = row(2, 5)
-        values = list(islice(step_values(chain, until((False, False), (True, False), 1)), 3))
+        values = list(islice(step_values(chain, until((False, False), (True, False), HOUR)), 3))
         self.assertEqual(values, [[1, 0]] * 3)
 
     def test_no_rate(self):
         chain = Chain(3, {}, {})
-        phase = until((True, True, False), (True, False, False), MOST_HOURS)
+        phase = until((True, True, False), (True, False, False), MOST_HUNDREDTHS)
         self.assertEqual(list(islice(step_values(chain, phase), 3)), [[1, 0, 0]] * 3)
         self.assertEqual(quotients(chain, phase, 50), [1, 0, 0])
         self.assertEqual([Run(chain, phase).to(50).quotient(s) for s in range(3)], [1, 0, 0])
@@ -86,30 +87,30 @@ class StepValues(unittest.TestCase):
 class Quotients(unittest.TestCase):
     def test_row_by_a_closed_form(self):
         """With equal exits on the way, d moves away means: at least d moves in time."""
-        for count, rate, hours in ((2, 500, 8), (5, 300_000, 7), (6, MOST_RATE, 1)):
+        for count, rate, hundredths in ((2, 500, 8 * HOUR), (5, 300_000, 725), (6, MOST_RATE, HOUR)):
             chain = row(count, rate)
-            load = chain.load(hours)
+            load = chain.load(hundredths)
             for last in (0, 3, depth(load), depth(load) + 9):
                 all_weights = first_weights(load, last + 1)
                 want = [sum(all_weights[count - 1 - s:]) / sum(all_weights) for s in range(count)]
-                self.assertEqual(quotients(chain, until(*reading(chain), hours), last), want)
+                self.assertEqual(quotients(chain, until(*reading(chain), hundredths), last), want)
 
     def test_two_exits_by_a_closed_form(self):
         chain = Chain(3, {(0, 1): 200_000, (0, 2): 300_000}, {})
-        phase = until((True, False, False), (False, True, False), 3)
+        phase = until((True, False, False), (False, True, False), 3 * HOUR)
         got = quotients(chain, phase, 60)[0]
         self.assertAlmostEqual(float(got), 0.4 * (1 - exp(-1.5)), places=12)
 
     def test_two_speeds_by_a_closed_form(self):
         """Rates 2 and 1 in a row: 1 - 2 / e^t + 1 / e^(2 t)."""
         chain = Chain(3, {(0, 1): 2_000_000, (1, 2): 1_000_000}, {})
-        got = quotients(chain, until((True, True, False), (False, False, True), 2), 60)[0]
+        got = quotients(chain, until((True, True, False), (False, False, True), 2 * HOUR), 60)[0]
         self.assertAlmostEqual(float(got), 1 - 2 * exp(-2) + exp(-4), places=12)
 
     def test_random_by_a_matrix(self):
         for chain, phase in random_untils(Random(2), 25):
-            run = Run(chain, phase).to(depth(chain.load(phase.hours)))
-            want = float_until(chain, *reading(chain), phase.hours)
+            run = Run(chain, phase).to(depth(chain.load(phase.hundredths)))
+            want = float_until(chain, *reading(chain), phase.hundredths)
             for s in range(chain.states):
                 self.assertAlmostEqual(float(run.quotient(s)), want[s], delta=1e-9)
 
@@ -126,7 +127,7 @@ class Quotients(unittest.TestCase):
         for _ in range(10):
             chain = random_chain(random)
             start = tuple(Fraction(random.randint(0, 9), 9) for _ in range(chain.states))
-            phase = Phase(start, frozenset(), frozenset((0,)), random_hours(random, chain))
+            phase = Phase(start, frozenset(), frozenset((0,)), random_hundredths(random, chain))
             run = Run(chain, phase).to(12)
             self.assertEqual([run.quotient(s) for s in range(chain.states)], quotients(chain, phase, 12))
 
@@ -146,6 +147,6 @@ class Rising(unittest.TestCase):
         random = Random(6)
         for chain, phase in random_untils(random, 30):
             more = [tuple(mark or random.random() < 0.4 for mark in marks) for marks in reading(chain)]
-            runs = [Run(chain, each).to(40) for each in (phase, until(*more, phase.hours))]
+            runs = [Run(chain, each).to(40) for each in (phase, until(*more, phase.hundredths))]
             for s in range(chain.states):
                 self.assertLessEqual(runs[0].quotient(s), runs[1].quotient(s))

@@ -7,13 +7,13 @@ from random import Random
 from reckoning.chain import Chain
 from reckoning.ends import CERTAIN, IMPOSSIBLE, Ends, Rules, has, verdicts
 from reckoning.formula import COMPARISONS, P, Tt, Until
-from reckoning.limits import BILLION, MOST_HOURS
-from reckoning.tests.chains import random_chain, random_hours, row
+from reckoning.limits import BILLION, HOUR, MOST_HUNDREDTHS
+from reckoning.tests.chains import random_chain, random_hundredths, row
 from reckoning.verdict import NO, UNDECIDED, WORDS, YES, both, negate, of_ends
 
 
-def path(hours):
-    return Until(hours, Tt(), Tt())
+def path(hundredths):
+    return Until(hundredths, Tt(), Tt())
 
 
 class Verdicts(unittest.TestCase):
@@ -41,7 +41,7 @@ class Verdicts(unittest.TestCase):
             cuts = sorted(random.randint(0, 12) for _ in range(4))
             width = random.choice((None, random.randint(cuts[2] - cuts[1], 12)))
             ends = Ends((cuts[0], cuts[1]), (cuts[2], cuts[3]), width)
-            node = P(random.choice(COMPARISONS), random.randint(0, 13), path(1))
+            node = P(random.choice(COMPARISONS), random.randint(0, 13), path(HOUR))
             pairs = [pair for pair in product(range(13), range(13)) if has(ends, *pair)]
             want = {of_ends(node.comparison, node.threshold, *pair) for pair in pairs}
             self.assertEqual(verdicts(node, ends), want)
@@ -49,34 +49,34 @@ class Verdicts(unittest.TestCase):
 
 class StateEnds(unittest.TestCase):
     def test_bench_value(self):
-        ends = Rules(row(2, 500)).ends(path(8), (YES, NO), (NO, YES))
+        ends = Rules(row(2, 500)).ends(path(8 * HOUR), (YES, NO), (NO, YES))
         near = Ends((3_992_011 - 168, 3_992_010), (3_992_011, 3_992_010 + 168), 168)
         self.assertEqual(ends, [near, CERTAIN])
 
     def test_only_the_second_holds(self):
-        self.assertEqual(Rules(row(2, 5)).ends(path(1), (NO, NO), (YES, NO)), [CERTAIN, IMPOSSIBLE])
+        self.assertEqual(Rules(row(2, 5)).ends(path(HOUR), (NO, NO), (YES, NO)), [CERTAIN, IMPOSSIBLE])
 
     def test_undecided_second(self):
-        ends = Rules(row(2, 500)).ends(path(8), (YES, NO), (UNDECIDED, YES))[0]
+        ends = Rules(row(2, 500)).ends(path(8 * HOUR), (YES, NO), (UNDECIDED, YES))[0]
         self.assertEqual(ends.upper, (BILLION, BILLION))
         self.assertEqual(ends.lower, (3_991_843, 3_992_010))
         self.assertIsNone(ends.width)
 
     def test_undecided_first(self):
         """Lower exactly 0, upper bound to its own reading."""
-        ends = Rules(row(2, 500)).ends(path(8), (UNDECIDED, NO), (NO, YES))[0]
+        ends = Rules(row(2, 500)).ends(path(8 * HOUR), (UNDECIDED, NO), (NO, YES))[0]
         self.assertEqual((ends.lower, ends.upper), ((0, 0), (3_992_011, 3_992_178)))
 
     def test_load_0(self):
         """Each end is its reading's exact value."""
-        for chain, hours in ((row(2, 500), 0), (Chain(2, {}, {}), MOST_HOURS)):
-            ends = Rules(chain).ends(path(hours), (UNDECIDED, YES), (NO, UNDECIDED))
+        for chain, hundredths in ((row(2, 500), 0), (Chain(2, {}, {}), MOST_HUNDREDTHS)):
+            ends = Rules(chain).ends(path(hundredths), (UNDECIDED, YES), (NO, UNDECIDED))
             self.assertEqual([e[:2] for e in ends], [((0, 0), (0, 0)), ((0, 0), (BILLION, BILLION))])
 
     def test_one_undecided_state_frees_all(self):
         chain = row(4, 500)
-        free = Rules(chain).ends(path(8), (YES, YES, YES, UNDECIDED), (NO, NO, NO, YES))
-        bound = Rules(chain).ends(path(8), (YES, YES, YES, YES), (NO, NO, NO, YES))
+        free = Rules(chain).ends(path(8 * HOUR), (YES, YES, YES, UNDECIDED), (NO, NO, NO, YES))
+        bound = Rules(chain).ends(path(8 * HOUR), (YES, YES, YES, YES), (NO, NO, NO, YES))
         self.assertEqual([e.width for e in free[:3]], [None] * 3)
         self.assertEqual([e.width for e in bound[:3]], [168] * 3)
 
@@ -85,7 +85,7 @@ class StateEnds(unittest.TestCase):
         for _ in range(60):
             chain = random_chain(random)
             vectors = [tuple(random.choice(WORDS) for _ in range(chain.states)) for _ in range(2)]
-            for ends in Rules(chain).ends(path(random_hours(random, chain)), *vectors):
+            for ends in Rules(chain).ends(path(random_hundredths(random, chain)), *vectors):
                 self.assertTrue(has(ends, ends.lower[1], ends.upper[0]))
                 self.assertTrue(has(ends, ends.lower[0], ends.upper[0]))
                 self.assertTrue(has(ends, ends.lower[1], ends.upper[1]))

@@ -3,7 +3,7 @@
 import unittest
 
 from reckoning.judge import allowed_ends, judge
-from reckoning.limits import MOST_HOURS, MOST_LEVELS
+from reckoning.limits import MOST_HUNDREDTHS, MOST_LEVELS
 from reckoning.refusal import lengths
 from reckoning.sheets import (FAST_MOVES, FORMULA, FULL_MOVES, HOURS_8, HOURS_8_REPORT, LABELS, MOVES, NO_MOVES, REPORT, REPORT_LINE, labels_text,
                               moves_text, until)
@@ -30,7 +30,7 @@ class Bench(Judged):
         self.allows(b"tt\n", REPORT_LINE + b"0," + yes % 0 + b"1," + yes % 0)
         self.allows(b"& up ! dead\n", REPORT_LINE + b"0," + yes % 0 + b"1," + no % 0)
         self.allows(b"! " * (MOST_LEVELS - 1) + b"up\n", REPORT_LINE + b"0," + no % 0 + b"1," + yes % 0)
-        self.allows(until(MOST_HOURS),
+        self.allows(until(MOST_HUNDREDTHS),
                     REPORT_LINE + b"0,0,0,40,yes\n1,1000000000,1000000000,40,no\n", moves=NO_MOVES)
 
     def test_refusals(self):

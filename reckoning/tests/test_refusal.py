@@ -2,14 +2,15 @@
 
 import unittest
 
-from reckoning.limits import (BILLION, FORMULA_BYTES, MOST_HOURS, MOST_LETTERS, MOST_LEVELS, MOST_MOVES, MOST_NAMES, MOST_NODES, MOST_RATE,
-                              MOST_RATE_HOURS, MOST_STATES, SHEET_BYTES)
+from reckoning.formula import hours_text
+from reckoning.limits import (BILLION, FORMULA_BYTES, HOUR, MOST_HUNDREDTHS, MOST_LETTERS, MOST_LEVELS, MOST_MOVES, MOST_NAMES, MOST_NODES, MOST_RATE,
+                              MOST_RATE_HUNDREDTHS, MOST_STATES, SHEET_BYTES)
 from reckoning.refusal import TESTS, Lent, lengths, needed, refusal
 from reckoning.sheets import FULL_MOVES, LABELS, MOVES, MOVES_LINE, NO_MOVES, labels_text, moves_text, until
 
 FORMULA = b"P >= 5 U 8 up dead\n"
-OVER_HOURS = until(MOST_HOURS + 1)
-OVER_THRESHOLD = until(1, threshold=BILLION + 1)
+OVER_HOURS = until(MOST_HUNDREDTHS + 1)
+OVER_THRESHOLD = until(HOUR, threshold=BILLION + 1)
 
 
 def answer(moves=MOVES, labels=LABELS, formula=FORMULA, lent=None):
@@ -126,14 +127,28 @@ class Refusals(unittest.TestCase):
                   b"up dead\n", b"!\n", b"! up up\n", b"UP\n", b"abcdefghijklm\n", b"U 1 up dead\n",
                   b"P = 1 U 1 up dead\n", b"P => 1 U 1 up dead\n", b"P < 1 up dead\n", b"P < 1 U 1 up\n",
                   b"P < U 1 up dead\n", b"P < x U 1 up dead\n", b"P < 1 U x up dead\n", b"P\n",
-                  b"P < 01 U 1 up dead\n", b"P < 1 U 01 up dead\n", b"P < 1 U 8.5 up dead\n",
+                  b"P < 01 U 1 up dead\n", b"P < 1 U 01 up dead\n", b"P < 1.5 U 8 up dead\n",
                   b"P < 10000000000 U 1 up dead\n", b"P < 1 U 10000000000 up dead\n", b"5\n", b"up,dead\n",
                   b"( up )\n", b"u\xe9\n", b"u\x00\n", b"P < 1 U 1 up dead up\n", b"| up dead\n"]
         self.check([(10, dict(formula=text)) for text in broken])
         self.check([(12, dict(formula=b"state\n")), (12, dict(formula=b"ttt\n")),
                     (13, dict(formula=b"P < 9999999999 U 1 up dead\n")),
                     (13, dict(formula=b"P < 1 U 9999999999 up dead\n")),
-                    (0, dict(formula=until(MOST_HOURS, threshold=BILLION)))])
+                    (0, dict(formula=until(MOST_HUNDREDTHS, threshold=BILLION)))])
+
+    def test_hours(self):
+        """One or two decimals behind a point, the last not 0; ten digits before it."""
+        good = {b"8.25": 825, b"8.5": 850, b"8.05": 805, b"0.05": 5, b"0.5": 50, b"0": 0, b"8760": MOST_HUNDREDTHS, b"8759.99": MOST_HUNDREDTHS - 1}
+        for typed, hundredths in good.items():
+            with self.subTest(typed):
+                job = refusal(MOVES, LABELS, b"P < 1 U %s up dead\n" % typed)
+                self.assertEqual(job.tree.path.hundredths, hundredths)
+                self.assertEqual(hours_text(hundredths), typed)
+        broken = [b"8.50", b"8.0", b"8.00", b"8.", b".5", b".", b"00.5", b"08.5", b"8.125", b"8.2.5", b"8..5", b"8.-5", b"8.5h", b"8,5", b"+8.5",
+                  b"1e3", b"10000000000.5", b"8.\xb2", b"0.", b"0.0", b"0.00"]
+        self.check([(10, dict(formula=b"P < 1 U %s up dead\n" % typed)) for typed in broken])
+        self.check([(10, dict(formula=b"P < %s U 8 up dead\n" % typed)) for typed in (b"1.5", b"0.25")])
+        self.check([(13, dict(formula=b"P < 1 U %s up dead\n" % typed)) for typed in (b"8760.01", b"8760.5", b"9999999999.99")])
 
     def test_nodes_and_levels(self):
         over = b"P < 1 U 1 up dead\n"
@@ -163,12 +178,12 @@ class Refusals(unittest.TestCase):
         ])
 
     def test_load(self):
-        def job(q, hours):
-            return dict(moves=moves_text([(0, 1, q)]), formula=until(hours))
-        most = MOST_RATE_HOURS
-        self.check([(0, job(MOST_RATE, 1)), (14, job(MOST_RATE, 2)), (0, job(MOST_RATE, 0)), (0, job(most // 8, 8)),
-                    (14, job(most // 8 + 1, 8)), (0, job(most // MOST_HOURS, MOST_HOURS)), (14, job(most // MOST_HOURS + 1, MOST_HOURS)),
-                    (14, job(most // 13 + 1, 13))])         # by one
+        def job(q, hundredths):
+            return dict(moves=moves_text([(0, 1, q)]), formula=until(hundredths))
+        most = MOST_RATE_HUNDREDTHS
+        over = [(most // 825 + 1, 825), (most // MOST_HUNDREDTHS + 1, MOST_HUNDREDTHS), (most // 1_517 + 1, 1_517)]     # the last by one
+        self.check([(0, job(MOST_RATE, HOUR)), (14, job(MOST_RATE, HOUR + 1)), (0, job(MOST_RATE, 0)), (0, job(most // 825, 825)),
+                    (0, job(most // MOST_HUNDREDTHS, MOST_HUNDREDTHS)), *((14, job(*each)) for each in over)])
 
     def test_lent(self):
         need = Lent(2, 2, 2, 1, 532, 6)

@@ -6,7 +6,7 @@ use Prim.Native.Nat.{ℕ, _*_, _-_, _/_, _≤_, _<_}
 use native.Mathlib.Omega.{arith}
 use lib.Dec.{leb, eqb}
 use borrow.Author.Tests.{leb-true, eqb-false}
-use Rattle.csl.specs.Limits.{billion, rateHours, mostRateHours}
+use Rattle.csl.specs.Limits.{billion, rateHundredths, mostRateHundredths}
 use Rattle.csl.specs.Formula.{Comparison, Formula, always, label, negated, both, chance, Path, until, PathOf, untilOf, pathOf}
 use Rattle.csl.specs.Formula.{phasesPass, pathsPass, pathsPassIn}
 use Rattle.csl.specs.Chain.{Chain, topRate, load, depth}
@@ -26,7 +26,7 @@ use Rattle.bounds.specs.Rounded.{rounded, rounded-rounds, rounds-same}
 use Rattle.bounds.specs.Reading.{summedLower, summedUpper}
 use Rattle.bounds.specs.UntilEnds.{untilLower, untilUpper, until-ends}
 
--- the ends of an until over t hours at each state, where the operands have the verdicts v and w
+-- the ends of an until over t hundredths of an hour at each state, where the operands have the verdicts v and w
 abbrev pub lowerFound : Chain → ℕ → (v w : ℕ → Verdict) → ℕ → ℕ
 lowerFound c t v w = untilLower c t v w (rounded c (untilPhase (least v) (least w)))
 
@@ -41,14 +41,14 @@ cond-same a x y z false e h = let n : a ≡ 0 → ⊥ = eqb-false a 0 e in h (om
 summed-lower-same : (c : Chain) (t : ℕ) (ph : Phase) (val : ℕ → ℕ → ℕ) (s : ℕ) → s < c .states → Rounds c ph val
     → summedLower c t val s ≡ summedLower c t (rounded c ph) s
 summed-lower-same c t ph val s l r =
-    end-same (topRate c * t) rateHours (topRate c * t / rateHours) (depth c t) (λ k. val k s) (λ k. rounded c ph k s)
+    end-same (topRate c * t) rateHundredths (topRate c * t / rateHundredths) (depth c t) (λ k. val k s) (λ k. rounded c ph k s)
     (λ k i. rounds-same c ph val r k s l)
 
 summed-upper-same : (c : Chain) (t : ℕ) (ph : Phase) (val : ℕ → ℕ → ℕ) (s : ℕ) → s < c .states → Rounds c ph val
     → summedUpper c t val s ≡ summedUpper c t (rounded c ph) s
 summed-upper-same c t ph val s l r =
     ap (λ (x : ℕ). billion - x)
-    (left-same (topRate c * t) rateHours (topRate c * t / rateHours) (depth c t) 0 (λ k. val k s) (λ k. rounded c ph k s)
+    (left-same (topRate c * t) rateHundredths (topRate c * t / rateHundredths) (depth c t) 0 (λ k. val k s) (λ k. rounded c ph k s)
     (λ k i. rounds-same c ph val r k s l))
 
 module _ (c : Chain) (t : ℕ) (v w : ℕ → Verdict) (val : ℕ → ℕ → ℕ) (s : ℕ) (in-range : s < c .states) where
@@ -176,9 +176,9 @@ module _ (c : Chain) (test : ℕ → Bool) (small : (t : ℕ) → test t ≡ tru
       path-backed w r p _ _ _ (chance-keeps r p (foundIn c w) (same-phases w (k .0))) (k .1)
 
 -- "q × t over 64,000,000 for some until" is turned back
-load-small : (c : Chain) (t : ℕ) → leb (topRate c * t) mostRateHours ≡ true → depth c t ≤ mostDepth
+load-small : (c : Chain) (t : ℕ) → leb (topRate c * t) mostRateHundredths ≡ true → depth c t ≤ mostDepth
 unfolding depth load
-load-small c t h = omega (arith, leb-true (topRate c * t) mostRateHours h)
+load-small c t h = omega (arith, leb-true (topRate c * t) mostRateHundredths h)
 
 pub report-found : (c : Chain) (f : Formula) → pathsPass (inLoad (topRate c)) f ≡ true → Reported c f (reportLower c f) (reportUpper c f) (found c f)
-report-found c f h = found-reported c (λ t. leb (topRate c * t) mostRateHours) (load-small c) f h
+report-found c f h = found-reported c (λ t. leb (topRate c * t) mostRateHundredths) (load-small c) f h

@@ -4,7 +4,7 @@ use mathlib.Core.Path.{_≡_, refl, sym, _∙_, ap}
 use mathlib.Core.Bool.{Bool, true, false}
 use Prim.Native.Nat.{ℕ, zero, suc, _*_, _-_, _/_, _≤_, _<_}
 use native.Mathlib.Omega.{arith}
-use Rattle.csl.specs.Limits.{billion, rateHours}
+use Rattle.csl.specs.Limits.{billion, rateHundredths}
 use Rattle.csl.specs.Formula.{untilOf}
 use Rattle.csl.specs.Chain.{Chain, topRate, load, depth}
 use Rattle.csl.specs.Phase.{Phase, bit}
@@ -44,12 +44,12 @@ factor-some : (q t : ℕ) → 0 < q * t → 0 < q
 factor-some zero t h = absurd (omega arith)
 factor-some (suc q) t h = omega arith
 
--- the two ends of a phase at state s, for t hours, from rounded values
+-- the two ends of a phase at state s, for t hundredths of an hour, from rounded values
 abbrev pub summedLower : Chain → ℕ → (ℕ → ℕ → ℕ) → ℕ → ℕ
-summedLower c t val s = lowerEnd (topRate c * t) rateHours (topRate c * t / rateHours) (depth c t) (λ k. val k s)
+summedLower c t val s = lowerEnd (topRate c * t) rateHundredths (topRate c * t / rateHundredths) (depth c t) (λ k. val k s)
 
 abbrev pub summedUpper : Chain → ℕ → (ℕ → ℕ → ℕ) → ℕ → ℕ
-summedUpper c t val s = upperEnd (topRate c * t) rateHours (topRate c * t / rateHours) (depth c t) 0 (λ k. val k s)
+summedUpper c t val s = upperEnd (topRate c * t) rateHundredths (topRate c * t / rateHundredths) (depth c t) 0 (λ k. val k s)
 
 module _ (c : Chain) (t s : ℕ) (in-range : s < c .states) (small : depth c t ≤ mostDepth) (moving : 0 < topRate c * t) where
   -- one reading
@@ -57,20 +57,20 @@ module _ (c : Chain) (t s : ℕ) (in-range : s < c .states) (small : depth c t �
       → Bounds c t x y s (summedLower c t val s) (summedUpper c t val s)
   unfolding load depth
   reading-bounds x y val r =
-      let p : PhaseEnds c (untilPhase x y) (topRate c * t) rateHours 0 s (summedLower c t val s) (summedUpper c t val s)
-      = phase-ends (topRate c * t) rateHours moving (omega arith) c (untilPhase x y) (factor-some (topRate c) t moving) (omega arith)
+      let p : PhaseEnds c (untilPhase x y) (topRate c * t) rateHundredths 0 s (summedLower c t val s) (summedUpper c t val s)
+      = phase-ends (topRate c * t) rateHundredths moving (omega arith) c (untilPhase x y) (factor-some (topRate c) t moving) (omega arith)
       (until-starts c x y) (rounds-run refl r) s in-range small in
       record { below = p .below; above = p .above; near = omega (arith, p .near) }
 
   lower-small : (x y : ℕ → Bool) (val : ℕ → ℕ → ℕ) → Rounds c (untilPhase x y) val → summedLower c t val s ≤ billion
   lower-small x y val r =
-      end-most (topRate c * t) rateHours (topRate c * t / rateHours) (depth c t) (λ k. val k s)
+      end-most (topRate c * t) rateHundredths (topRate c * t / rateHundredths) (depth c t) (λ k. val k s)
       (λ k i. rounds-most c (untilPhase x y) val (λ u l. bit-most (y u)) r k s in-range)
 
   same-upper : (ph : Phase) (val high : ℕ → ℕ → ℕ) → Rounds c ph val → Rounds c ph high → summedUpper c t val s ≡ summedUpper c t high s
   same-upper ph val high r r' =
       ap (λ (x : ℕ). billion - x)
-      (left-same (topRate c * t) rateHours (topRate c * t / rateHours) (depth c t) 0 (λ k. val k s) (λ k. high k s)
+      (left-same (topRate c * t) rateHundredths (topRate c * t / rateHundredths) (depth c t) 0 (λ k. val k s) (λ k. high k s)
       (λ k i. rounds-same c ph val r k s in-range ∙ sym (rounds-same c ph high r' k s in-range)))
 
   -- Of the reading with undecided as no the code takes the lower end, of that with undecided as yes the upper end; each reading is bound

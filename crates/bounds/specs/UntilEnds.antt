@@ -5,7 +5,7 @@ use Prim.Native.Nat.{ℕ, _*_, _≤_, _<_}
 use native.Mathlib.Omega.{arith}
 use lib.Dec.{eqb}
 use borrow.Author.Tests.{eqb-true, eqb-false}
-use Rattle.csl.specs.Limits.{billion, rateHours}
+use Rattle.csl.specs.Limits.{billion, rateHundredths}
 use Rattle.csl.specs.Formula.{untilOf}
 use Rattle.csl.specs.Fraction.{frac, Same}
 use Rattle.csl.specs.Chain.{Chain, topRate, depth}
@@ -19,12 +19,12 @@ use Rattle.bounds.specs.Width.{mostDepth}
 use Rattle.bounds.specs.StepValues.{Rounds, pointed, untilLowerOf, untilUpperOf}
 use Rattle.bounds.specs.Reading.{decided-same, summedLower, summedUpper, summed-ends}
 
--- the ends at state s of an until over t hours, from the rounded values of its two phases; v and w are the operands' verdicts
+-- the ends at state s of an until over t hundredths of an hour, from the rounded values of its two phases; v and w are the operands' verdicts
 abbrev pub untilLower : Chain → ℕ → (v w : ℕ → Verdict) (val : ℕ → ℕ → ℕ) → ℕ → ℕ
-untilLower c t v w val s = untilLowerOf (topRate c * t) rateHours (depth c t) (v s) (w s) (λ k. val k s)
+untilLower c t v w val s = untilLowerOf (topRate c * t) rateHundredths (depth c t) (v s) (w s) (λ k. val k s)
 
 abbrev pub untilUpper : Chain → ℕ → (v w : ℕ → Verdict) (high : ℕ → ℕ → ℕ) → ℕ → ℕ
-untilUpper c t v w high s = untilUpperOf (topRate c * t) rateHours (depth c t) (v s) (w s) (λ k. high k s)
+untilUpper c t v w high s = untilUpperOf (topRate c * t) rateHundredths (depth c t) (v s) (w s) (λ k. high k s)
 
 -- no state has two verdicts
 abbrev place : Verdict → ℕ

@@ -1,10 +1,10 @@
 -- Document 01's bench values: the jobs, and what is said of them. `Laws.Bench` shows it. Assumes nothing.
 use mathlib.Core.Path.{_≡_}
-use Prim.Native.Nat.{ℕ, zero, suc, _+_, _≤_}
+use Prim.Native.Nat.{ℕ, zero, suc, _+_, _*_, _≤_}
 use Prim.Native.String.{String}
 use mathlib.Core.Option.{some}
 use Rattle.csl.specs.Text.{bytes}
-use Rattle.csl.specs.Limits.{mostNodes}
+use Rattle.csl.specs.Limits.{mostNodes, hour, mostHundredths, mostRateHundredths, rateHundredths}
 use Rattle.csl.specs.Formula.{Formula, always, label, negated, both, chance, Path, until, AtMost, AtLeast}
 use Rattle.csl.specs.Fraction.{Fraction, frac, Same}
 use Rattle.csl.specs.Sheet.{sheetOf}
@@ -37,6 +37,10 @@ up = label (bytes "up")
 
 abbrev pub dead : Formula
 dead = label (bytes "dead")
+
+-- 8 hours, in hundredths
+abbrev pub eight : ℕ
+eight = 8 * hour
 
 -- lent lengths that do for two states, one move and any formula
 abbrev pub enough : Buffers ℕ
@@ -73,21 +77,46 @@ pub record BenchValues : Type 0 where
   pub both-printed : Prints (small "& up ! dead\n")
       "state,lower,upper,depth,verdict\n0,1000000000,1000000000,0,yes\n1,0,0,0,no\n"
   -- "`P <= 10000000 U 8 up dead`: .. depth 42"
-  pub eight-hours : Accepts (small "P <= 10000000 U 8 up dead\n") (chance AtMost 10000000 (until 8 up dead)) 500 42
+  pub eight-hours : Accepts (small "P <= 10000000 U 8 up dead\n") (chance AtMost 10000000 (until eight up dead)) 500 42
   -- "q 64,000,000 and 1 hour: depth 168. 2 hours: 14."
-  pub full-load : Accepts (fast "P >= 5 U 1 up dead\n") (chance AtLeast 5 (until 1 up dead)) 64000000 168
+  pub full-load : Accepts (fast "P >= 5 U 1 up dead\n") (chance AtLeast 5 (until hour up dead)) 64000000 168
   pub over-load : Refuses (fast "P >= 5 U 2 up dead\n") 14
   -- "No moves, 8,760 hours: q = 0, depth 40, ends 0 or 1,000,000,000."
-  pub no-moves : Accepts (still "P >= 5 U 8760 up dead\n") (chance AtLeast 5 (until 8760 up dead)) 0 40
+  pub no-moves : Accepts (still "P >= 5 U 8760 up dead\n") (chance AtLeast 5 (until (8760 * hour) up dead)) 0 40
   pub no-moves-printed : Prints (still "P >= 5 U 8760 up dead\n")
       "state,lower,upper,depth,verdict\n0,0,0,40,no\n1,1000000000,1000000000,40,yes\n"
   -- "15 `!` before `up`: accepted. 16: 11."
   pub fifteen : Accepts (small "! ! ! ! ! ! ! ! ! ! ! ! ! ! ! up\n") (negatedTimes 15 up) 500 0
   pub sixteen : Refuses (small "! ! ! ! ! ! ! ! ! ! ! ! ! ! ! ! up\n") 11
   -- "`P >= 0 U 1 up dead`: yes everywhere", and so on every chain, for all paths
-  pub at-least-0-accepted : Accepts (small "P >= 0 U 1 up dead\n") (chance AtLeast 0 (until 1 up dead)) 500 42
+  pub at-least-0-accepted : Accepts (small "P >= 0 U 1 up dead\n") (chance AtLeast 0 (until hour up dead)) 500 42
   pub at-least-0 : (c : Chain) (w : Path) (lower upper : ℕ → ℕ) (v : ℕ → Verdict)
       → Reported c (chance AtLeast 0 w) lower upper v → AtEach c λ s. v s ≡ Yes
+
+-- Hours with decimals, over the small sheet and q 64,000,000, and the numbers of the paper.
+pub record DecimalHours : Type 0 where
+  -- "`8.25` and `8.5` are good"; so are hours below 1
+  pub quarter : Accepts (small "P >= 5 U 8.25 up dead\n") (chance AtLeast 5 (until 825 up dead)) 500 42
+  pub half : Accepts (small "P >= 5 U 8.5 up dead\n") (chance AtLeast 5 (until 850 up dead)) 500 42
+  pub minutes : Accepts (small "P >= 5 U 0.05 up dead\n") (chance AtLeast 5 (until 5 up dead)) 500 42
+  -- "`8.50` breaks the grammar"; so does whatever else is not one or two decimals behind a number
+  pub trailing-zero : Refuses (small "P >= 5 U 8.50 up dead\n") 10
+  pub only-zero : Refuses (small "P >= 5 U 8.0 up dead\n") 10
+  pub no-decimal : Refuses (small "P >= 5 U 8. up dead\n") 10
+  pub no-number : Refuses (small "P >= 5 U .5 up dead\n") 10
+  pub leading-zero : Refuses (small "P >= 5 U 00.5 up dead\n") 10
+  pub three-decimals : Refuses (small "P >= 5 U 8.125 up dead\n") 10
+  pub two-points : Refuses (small "P >= 5 U 8.2.5 up dead\n") 10
+  pub threshold : Refuses (small "P >= 5.5 U 8 up dead\n") 10
+  -- "the 10 digits count before the point"; "the top is 8,760 hours as before"
+  pub eleven-digits : Refuses (small "P >= 5 U 10000000000.5 up dead\n") 10
+  pub ten-digits : Refuses (small "P >= 5 U 9999999999.99 up dead\n") 13
+  pub over-the-top : Refuses (small "P >= 5 U 8760.01 up dead\n") 13
+  pub mostHundredths-is : mostHundredths ≡ 876000
+  -- "14 compares q × hundredths with 6,400,000,000"; "The load is q × hundredths / 100,000,000"
+  pub over-load : Refuses (fast "P >= 5 U 1.01 up dead\n") 14
+  pub mostRateHundredths-is : mostRateHundredths ≡ 6400000000
+  pub rateHundredths-is : rateHundredths ≡ 100000000
 
 -- "`P <= 10000000 U 8 up dead`: .. lower ≤ 3,992,010, upper ≥ 3,992,011, width ≤ 168, yes at state 0", of every report
 pub record EightHours (lower upper : ℕ → ℕ) (v : ℕ → Verdict) : Type 0 where
@@ -103,7 +132,7 @@ trialChain =
     chainOf (sheetOf (bytes "from,to,rate\n0,1,300\n0,2,200\n1,0,100\n2,1,50\n") (bytes "state,up,dead\n0,1,0\n1,1,0\n2,0,1\n"))
 
 abbrev pub trialQuotient : ℕ → Fraction
-trialQuotient s = untilQuotient trialChain 5000 (trialChain .mark (bytes "up")) (trialChain .mark (bytes "dead")) s 9
+trialQuotient s = untilQuotient trialChain (5000 * hour) (trialChain .mark (bytes "up")) (trialChain .mark (bytes "dead")) s 9
 
 pub record TrialQuotients : Type 0 where
   pub state-0 : Same (trialQuotient 0) (frac 914845826 2262813335)

@@ -3,7 +3,7 @@ use Prim.Native.Nat.{ℕ, zero, suc, _+_, _*_, max}
 use mathlib.Core.Bool.{Bool, cond}
 use lib.Dec.{eqb}
 use Rattle.csl.specs.Text.{Text}
-use Rattle.csl.specs.Limits.{rateHours, spareSteps}
+use Rattle.csl.specs.Limits.{rateHundredths, spareSteps}
 use Rattle.csl.specs.Labels.{placeOf}
 use Rattle.csl.specs.Moves.{rateIn}
 use Rattle.csl.specs.Sheet.{Sheet}
@@ -41,9 +41,9 @@ exitRate c s = sumTo (away c s) (c .states)
 unfoldable pub topRate : Chain → ℕ
 topRate c = greatest (exitRate c) (c .states)
 
--- "For until over t hours the load L is q × t / 1,000,000, an exact fraction."
+-- "The load is q × hundredths / 100,000,000", "an exact fraction": times count hundredths of an hour, here and below.
 unfoldable pub load : Chain → ℕ → Fraction
-load c t = frac (topRate c * t) rateHours
+load c t = frac (topRate c * t) rateHundredths
 
 -- "The depth D is 2 × (L rounded up to a whole number) + 40."
 unfoldable pub depth : Chain → ℕ → ℕ

@@ -7,8 +7,8 @@ use Rattle.csl.specs.Text.{Text}
 pub data Comparison : Type 0 where
   Less AtMost AtLeast More : Comparison
 
--- A path formula whose operands are of some type: formulas, their verdicts, or where they hold. "A path formula is `U`, whole hours and two
--- state formulas."
+-- A path formula whose operands are of some type: formulas, their verdicts, or where they hold. "A path formula is `U`, .. hours and two state
+-- formulas." The hours are in hundredths.
 pub data PathOf (A : Type 0) : Type 0 where
   untilOf : ℕ → A → A → PathOf A
 
@@ -69,7 +69,7 @@ unfoldable mutual
   pub labelsPassIn : (Text → Bool) → Path → Bool
   labelsPassIn test (until t a b) = labelsPass test a && labelsPass test b
 
--- the hours that a path is written with pass a test; and the hours of each of its phases
+-- the hours that a path is written with pass a test, in hundredths; and those of each of its phases
 abbrev pub timesPass : {A : Type 0} → (ℕ → Bool) → PathOf A → Bool
 timesPass test (untilOf t a b) = test t
 

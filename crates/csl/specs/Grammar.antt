@@ -11,6 +11,7 @@ use Rattle.csl.specs.Limits.{formulaDigits}
 use Rattle.csl.specs.Number.{isNumber, valueOf}
 use Rattle.csl.specs.Line.{space, parts, linesOf, firstLine, isEnded}
 use Rattle.csl.specs.Labels.{isWord}
+use Rattle.csl.specs.Hours.{hundredthsOf}
 use Rattle.csl.specs.Formula.{Formula, always, label, negated, both, chance, until, Comparison, Less, AtMost, AtLeast, More}
 
 unfoldable pub tokensOf : Text → List Text
@@ -35,14 +36,14 @@ comparisonOf w =
     (cond (same w (bytes "<=")) (some AtMost)
     (cond (same w (bytes ">=")) (some AtLeast) (cond (same w (bytes ">")) (some More) none)))
 
-unfoldable pub onComparison : List Text → (Comparison → List Text → Found) → Found
-onComparison [] next = nothing
-onComparison (w ∷ ts) next = elim (comparisonOf w) [ none ↦ nothing | some r ↦ next r ts ]
+-- a number in the formula
+unfoldable pub numberOf : Text → Option ℕ
+numberOf w = cond (isNumber formulaDigits w) (some (valueOf w)) none
 
--- a threshold, or "whole hours"
-unfoldable pub onNumber : List Text → (ℕ → List Text → Found) → Found
-onNumber [] next = nothing
-onNumber (w ∷ ts) next = elim (isNumber formulaDigits w) [ true ↦ next (valueOf w) ts | false ↦ nothing ]
+-- one token that spells something: a comparison, a threshold, or hours
+unfoldable pub onToken : {A : Type 0} → (Text → Option A) → List Text → (A → List Text → Found) → Found
+onToken spelled [] next = nothing
+onToken spelled (w ∷ ts) next = elim (spelled w) [ none ↦ nothing | some a ↦ next a ts ]
 
 -- one word that is fixed
 unfoldable pub onWord : Text → List Text → (List Text → Found) → Found
@@ -53,9 +54,9 @@ onWord x (w ∷ ts) next = elim (same w x) [ true ↦ next ts | false ↦ nothin
 unfoldable pub pair : Reader → (Formula → Formula → Formula) → Reader
 pair read make ts = andThen (read ts) λ a more. andThen (read more) λ b rest. found (make a b) rest
 
--- "A path formula is `U`, whole hours and two state formulas."
+-- "A path formula is `U`, .. hours and two state formulas."
 unfoldable pub path : Reader → Comparison → ℕ → Reader
-path read r p ts = onWord (bytes "U") ts λ more. onNumber more λ t rest. pair read (λ a b. chance r p (until t a b)) rest
+path read r p ts = onWord (bytes "U") ts λ more. onToken hundredthsOf more λ t rest. pair read (λ a b. chance r p (until t a b)) rest
 
 -- how a state formula begins
 pub data Head : Type 0 where
@@ -75,7 +76,7 @@ state read w truth ts = found always ts
 state read w name ts = found (label w) ts
 state read w bang ts = andThen (read ts) λ a rest. found (negated a) rest
 state read w ampersand ts = pair read both ts
-state read w chances ts = onComparison ts λ r more. onNumber more λ p rest. path read r p rest
+state read w chances ts = onToken comparisonOf ts λ r more. onToken numberOf more λ p rest. path read r p rest
 state read w other ts = nothing
 
 -- a state formula at the head of the tokens; each reader within it has fewer tokens, so their number is steps enough
@@ -102,7 +103,7 @@ pub data Spells : Formula → List Text → Type 0 where
   spells-name : (w : Text) → isWord w ≡ true → same w (bytes "tt") ≡ false → Spells (label w) (w ∷ [])
   spells-not : {a : Formula} {s : List Text} → Spells a s → Spells (negated a) (bytes "!" ∷ s)
   spells-both : {a b : Formula} {s t : List Text} → Spells a s → Spells b t → Spells (both a b) (bytes "&" ∷ s ++ t)
-  spells-until : {a b : Formula} {s t : List Text} (sign threshold hours : Text) (r : Comparison)
-      → comparisonOf sign ≡ some r → isNumber formulaDigits threshold ≡ true → isNumber formulaDigits hours ≡ true
+  spells-until : {a b : Formula} {s t : List Text} (sign threshold hours : Text) (r : Comparison) (p u : ℕ)
+      → comparisonOf sign ≡ some r → numberOf threshold ≡ some p → hundredthsOf hours ≡ some u
       → Spells a s → Spells b t
-      → Spells (chance r (valueOf threshold) (until (valueOf hours) a b)) (bytes "P" ∷ sign ∷ threshold ∷ bytes "U" ∷ hours ∷ s ++ t)
+      → Spells (chance r p (until u a b)) (bytes "P" ∷ sign ∷ threshold ∷ bytes "U" ∷ hours ∷ s ++ t)

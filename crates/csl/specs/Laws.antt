@@ -23,5 +23,6 @@ pub mod Throughout
 pub mod Grammar
 pub mod Bench
 pub mod Trial
+pub mod WholeHours
 pub mod EightHours
 pub mod Examples

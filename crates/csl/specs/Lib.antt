@@ -6,6 +6,7 @@ pub mod Line
 pub mod Labels
 pub mod Moves
 pub mod Sheet
+pub mod Hours
 pub mod Formula
 pub mod Grammar
 pub mod Fraction

@@ -1,5 +1,5 @@
 -- Document 01's limits, each under its own name. Assumes nothing.
-use Prim.Native.Nat.{ℕ}
+use Prim.Native.Nat.{ℕ, _*_}
 
 -- "A billionth is 1/1,000,000,000; thresholds and interval ends are whole billionths."
 abbrev pub billion : ℕ
@@ -44,19 +44,24 @@ mostNodes = 64
 abbrev pub mostLevels : ℕ
 mostLevels = 16
 
--- "threshold over 1,000,000,000 or hours over 8,760"; "q × t over 64,000,000"
+-- "threshold over 1,000,000,000"
 abbrev pub mostThreshold : ℕ
 mostThreshold = 1000000000
 
-abbrev pub mostHours : ℕ
-mostHours = 8760
+-- "The reader of hours .. hands back hundredths": an hour, in these
+abbrev pub hour : ℕ
+hour = 100
 
-abbrev pub mostRateHours : ℕ
-mostRateHours = 64000000
+-- "the top is 8,760 hours as before"; "14 compares q × hundredths with 6,400,000,000"
+abbrev pub mostHundredths : ℕ
+mostHundredths = 8760 * hour
 
--- rates count moves per million hours: "the load L is q × t / 1,000,000"
-abbrev pub rateHours : ℕ
-rateHours = 1000000
+abbrev pub mostRateHundredths : ℕ
+mostRateHundredths = 64000000 * hour
+
+-- rates count moves per million hours: "The load is q × hundredths / 100,000,000"
+abbrev pub rateHundredths : ℕ
+rateHundredths = 1000000 * hour
 
 -- "The depth D is 2 × (L rounded up to a whole number) + 40."
 abbrev pub spareSteps : ℕ

@@ -7,7 +7,7 @@ use mathlib.Core.Option.{Option, none, some}
 use lib.ListN.{length}
 use lib.Dec.{leb, ltb, eqb}
 use Rattle.csl.specs.Text.{Text, among, any}
-use Rattle.csl.specs.Limits.{mostStates, mostMoves, mostRate, formulaBytes, sheetBytes, mostNodes, mostLevels, mostThreshold, mostHours, mostRateHours}
+use Rattle.csl.specs.Limits.{mostStates, mostMoves, mostRate, formulaBytes, sheetBytes, mostNodes, mostLevels, mostThreshold, mostHundredths, mostRateHundredths}
 use Rattle.csl.specs.Line.{laterLines}
 use Rattle.csl.specs.Labels.{labelsHead, labelsLayout, inTurn, statesOf}
 use Rattle.csl.specs.Moves.{Move, movesHead, movesLayout, movesOf, isRising, ratesOut}
@@ -94,14 +94,14 @@ strangeLabel names f = not (labelsPass (among names) f)
 
 -- 13: "threshold over 1,000,000,000 or hours over 8,760"
 abbrev pub inBounds : ℕ → PathOf Formula → Bool
-inBounds p o = leb p mostThreshold && timesPass (λ t. leb t mostHours) o
+inBounds p o = leb p mostThreshold && timesPass (λ t. leb t mostHundredths) o
 
 unfoldable pub wrongBound : Formula → Bool
 wrongBound f = not (pathsPass inBounds f)
 
--- 14: "q × t over 64,000,000 for some until"
+-- 14: "q × t over 64,000,000 for some until"; "14 compares q × hundredths with 6,400,000,000"
 abbrev pub inLoad : ℕ → ℕ → PathOf Formula → Bool
-inLoad q p o = phasesPass (λ t. leb (q * t) mostRateHours) o
+inLoad q p o = phasesPass (λ t. leb (q * t) mostRateHundredths) o
 
 unfoldable pub highLoad : ℕ → Formula → Bool
 highLoad q f = not (pathsPass (inLoad q) f)

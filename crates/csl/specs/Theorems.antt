@@ -1,19 +1,22 @@
 -- What follows from the definitions alone: the user's third demand, of EVERY report that has a backing, whoever made it; the bench values;
 -- what document 01 says in passing; and that the rules can be kept. Nothing here speaks of a program. Assumes nothing.
 use mathlib.Core.Path.{_≡_, refl}
-use mathlib.Core.Bool.{Bool, true}
+use mathlib.Core.Bool.{Bool, true, false, cond}
 use Prim.Native.Nat.{ℕ, suc, _+_, _*_, _≤_, _<_}
 use mathlib.Core.List.{List}
-use mathlib.Core.Option.{some}
+use mathlib.Core.Option.{none, some}
+use lib.Dec.{leb, eqb}
 use lib.ListN.{length}
 use native.Mathlib.Omega.{arith}
-use Rattle.csl.specs.Text.{Text}
-use Rattle.csl.specs.Limits.{widthFactor, spareSteps}
+use Rattle.csl.specs.Text.{Text, any}
+use Rattle.csl.specs.Limits.{formulaDigits, hour, mostHundredths, mostRateHundredths, widthFactor, spareSteps}
+use Rattle.csl.specs.Number.{isNumber, valueOf}
+use Rattle.csl.specs.Hours.{point, hundredthsOf}
 use Rattle.csl.specs.Formula.{Formula, chance, Path, until, PathOf, untilOf, Comparison, AtMost, AtLeast, More}
 use Rattle.csl.specs.Grammar.{readState, whole, Spells}
-use Rattle.csl.specs.Fraction.{frac, IsFraction, Below, times, sumUp, billionths}
-use Rattle.csl.specs.Chain.{Chain, load, depth}
-use Rattle.csl.specs.Phase.{divisor, stepTop, weight}
+use Rattle.csl.specs.Fraction.{frac, IsFraction, Below, Same, times, sumUp, roundUp, billionths}
+use Rattle.csl.specs.Chain.{Chain, topRate, load, depth}
+use Rattle.csl.specs.Phase.{divisor, stepTop, stepValue, weight, quotient}
 use Rattle.csl.specs.Limit.{Each}
 use Rattle.csl.specs.Verdicts.{Verdict, Yes, Reading, asNo, Sides}
 use Rattle.csl.specs.Until.{untilPhase, untilQuotient}
@@ -22,7 +25,7 @@ use Rattle.csl.specs.Backing.{AtEach, Backed, ChanceKeeps, operandsOf, N
 use Rattle.csl.specs.Truth.{Obeys, Throughout}
 use Rattle.csl.specs.Report.{Reported, backingOf}
 use Rattle.csl.specs.Refusal.{Job, jobChain}
-use Rattle.csl.specs.Bench.{small, up, dead, Accepts, BenchValues, EightHours, TrialQuotients}
+use Rattle.csl.specs.Bench.{small, up, dead, eight, Accepts, BenchValues, DecimalHours, EightHours, TrialQuotients}
 use Rattle.csl.specs.Laws.Computing.{computing}
 use Rattle.csl.specs.Laws.Fraction.{under-below}
 use Rattle.csl.specs.Laws.Steps.{step-le, step-rises, divisor-some}
@@ -37,6 +40,7 @@ use Rattle.csl.specs.Laws.Grammar.{read-if-spelled, spelled-if-read}
 use Rattle.csl.specs.Laws.Bench as bench
 use Rattle.csl.specs.Laws.Trial as trial
 use Rattle.csl.specs.Laws.EightHours as hours
+use Rattle.csl.specs.Laws.WholeHours as without-point
 use Rattle.csl.specs.Laws.Examples as examples
 
 -- T1. Demand 3: "the outermost until's quotient at every depth from D on, for every reading, lies in the interval; width at most 4 × D
@@ -113,8 +117,11 @@ decided-verdicts-are-a-table c f v k d =
 pub starred-bench-values : BenchValues
 starred-bench-values = bench.bench-values
 
+pub hours-with-decimals : DecimalHours
+hours-with-decimals = bench.decimal-hours
+
 pub eight-hours-of-every-report : (lower upper : ℕ → ℕ) (v : ℕ → Verdict)
-    → Reported (jobChain (small "P <= 10000000 U 8 up dead\n")) (chance AtMost 10000000 (until 8 up dead)) lower upper v → EightHours lower upper v
+    → Reported (jobChain (small "P <= 10000000 U 8 up dead\n")) (chance AtMost 10000000 (until eight up dead)) lower upper v → EightHours lower upper v
 eight-hours-of-every-report lower upper v k = hours.eight-hours lower upper v k
 
 pub quotients-as-reckoned : TrialQuotients
@@ -166,20 +173,49 @@ pub record HasReport (j : Job) (f : Formula) (q d : ℕ) (lower upper : ℕ → 
 
 -- a `P` within a `P`: 3,992,010 to 3,992,011 at state 0, 1,000,000,000 twice at state 1, yes twice
 pub nested-job-has-a-report : HasReport (small "P >= 1 U 8 up P > 10000000 U 8 up dead\n")
-    (chance AtLeast 1 (until 8 up (chance More 10000000 (until 8 up dead)))) 500 42 examples.lower8 examples.upper8 (λ s. Yes)
+    (chance AtLeast 1 (until eight up (chance More 10000000 (until eight up dead)))) 500 42 examples.lower8 examples.upper8 (λ s. Yes)
 unfolding computing
 nested-job-has-a-report = record { accepts = refl; reported = examples.nested }
 
 -- and a truth table that obeys CSL's rules, yes twice at the outermost node
 pub nested-job-has-a-table : Obeys (jobChain (small "P >= 1 U 8 up P > 10000000 U 8 up dead\n"))
-    (chance AtLeast 1 (until 8 up (chance More 10000000 (until 8 up dead)))) (λ s. true)
+    (chance AtLeast 1 (until eight up (chance More 10000000 (until eight up dead)))) (λ s. true)
 nested-job-has-a-table = examples.nested-obeys
 
 -- an undecided operand: 0 to 1,000,000,000 and undecided at state 0, 0 twice and no at state 1
 pub undecided-job-has-a-report : HasReport (small "P >= 5 U 8 up P <= 3992010 U 8 up dead\n")
-    (chance AtLeast 5 (until 8 up (chance AtMost 3992010 (until 8 up dead)))) 500 42 (λ s. 0) examples.openUpper examples.openVerdict
+    (chance AtLeast 5 (until eight up (chance AtMost 3992010 (until eight up dead)))) 500 42 (λ s. 0) examples.openUpper examples.openVerdict
 unfolding computing
 undecided-job-has-a-report = record { accepts = refl; reported = examples.undecided }
+
+-- T7. Hours without a point: "the top is 8,760 hours as before", and each is read, tested and weighed as document 01 has whole hours, so a
+-- formula without a point keeps its report.
+pub whole-hours-are-read : (w : Text) → any (λ b. eqb b point) w ≡ false
+    → hundredthsOf w ≡ cond (isNumber formulaDigits w) (some (valueOf w * hour)) none
+whole-hours-are-read w h = without-point.whole-read w h
+
+-- 13: "hours over 8,760"; 14: "q × t over 64,000,000"
+pub whole-hours-over-the-top : (t : ℕ) → leb (t * hour) mostHundredths ≡ leb t 8760
+whole-hours-over-the-top t = without-point.counted t 8760
+
+module _ (c : Chain) (t : ℕ) where
+  whole-product : topRate c * (t * hour) ≡ topRate c * t * hour
+  whole-product = omega arith
+
+  pub whole-hours-over-the-load : leb (topRate c * (t * hour)) mostRateHundredths ≡ leb (topRate c * t) 64000000
+  whole-hours-over-the-load = rw whole-product (without-point.counted (topRate c * t) 64000000)
+
+  -- "the load L is q × t / 1,000,000, an exact fraction. The depth D is 2 × (L rounded up to a whole number) + 40."
+  pub whole-hours-have-their-depth : depth c (t * hour) ≡ 2 * roundUp (frac (topRate c * t) 1000000) + spareSteps
+  unfolding depth load
+  whole-hours-have-their-depth = rw (whole-product, without-point.rounded (topRate c * t))
+
+  pub whole-hours-have-their-quotients : (first second : ℕ → Bool) (s n : ℕ)
+      → Same (untilQuotient c (t * hour) first second s n)
+      (quotient (frac (topRate c * t) 1000000) (stepValue c (untilPhase first second) s) n)
+  unfolding load
+  whole-hours-have-their-quotients first second s n =
+      without-point.same-quotient (load c (t * hour)) (frac (topRate c * t) 1000000) (omega arith) (stepValue c (untilPhase first second) s) n
 
 -- The reader of formulas is the grammar as document 01 lists it: tokens are read as a formula exactly where they spell it, so a text has
 -- at most one reading.

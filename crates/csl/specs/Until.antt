@@ -16,7 +16,7 @@ abbrev pub untilPhase : (ℕ → Bool) → (ℕ → Bool) → Phase
 untilPhase first second =
     record { whole = 1; start = λ s. bit (second s); one = second; nil = λ s. not (first s || second s) }
 
--- the quotients of state s for until over t hours, where `first` and `second` say where the operands hold
+-- the quotients of state s for until over t hundredths of an hour, where `first` and `second` say where the operands hold
 abbrev pub untilQuotient : Chain → ℕ → (ℕ → Bool) → (ℕ → Bool) → ℕ → ℕ → Fraction
 untilQuotient c t first second s = quotient (load c t) (stepValue c (untilPhase first second) s)
 
@@ -40,7 +40,7 @@ pub record UntilPoints (c : Chain) (t : ℕ) (v w : ℕ → Verdict) (s lower up
   pub lower-exact : topRate c * t ≡ 0 → (n : ℕ) → Same (billionths lower) (lowQuotient c t v w s n)
   pub upper-exact : topRate c * t ≡ 0 → (n : ℕ) → Same (billionths upper) (highQuotient c t v w s n)
 
--- what until over t hours means, with the operands a and b
+-- what until over t hundredths of an hour means, with the operands a and b
 abbrev pub untilMeaning : {A : Type 0} → Chain → ℕ → A → A → Meaning A
 untilMeaning c t a b =
     record {

@@ -8,7 +8,7 @@ use native.Mathlib.Omega.{arith}
 use lib.ListN.{length, getD}
 use lib.Dec.{leb}
 use borrow.Author.Tests.{leb-true, ltb-true}
-use Rattle.csl.specs.Limits.{mostThreshold, mostHours, mostRateHours}
+use Rattle.csl.specs.Limits.{mostThreshold, mostHundredths, mostRateHundredths}
 use Rattle.csl.specs.Formula.{levels, levelsIn}
 use Rattle.csl.specs.Formula as csl
 use Rattle.numbers.specs.Filled.{at, table-at}
@@ -128,12 +128,12 @@ module _ {mv l marks : List ℕ} {nodes : List Node} {node limit n q : ℕ} (a :
         let o : (path .first < node) × (path .second < node) = rw e at (a .fits node (omega arith) .before) in
         (o .0, o .1, ap levels (of-kind a some (kind.Chance sign p path) e))
 
-    pub light : q * path .hours ≤ mostRateHours
-    light = leb-true (q * path .hours) mostRateHours (rw e at (a .fits node (omega arith) .load))
+    pub light : q * path .hundredths ≤ mostRateHundredths
+    light = leb-true (q * path .hundredths) mostRateHundredths (rw e at (a .fits node (omega arith) .load))
 
     pub within : p ≤ mostThreshold
     within =
-        let o = and-eq-true-iff (leb p mostThreshold) (leb (path .hours) mostHours) .0 (rw e at (a .fits node (omega arith) .limits)) in
+        let o = and-eq-true-iff (leb p mostThreshold) (leb (path .hundredths) mostHundredths) .0 (rw e at (a .fits node (omega arith) .limits)) in
         leb-true p mostThreshold (o .0)
 
     abbrev pub may-left : DecideAsked mv l marks nodes (path .first) (limit - 1) n q
@@ -141,7 +141,7 @@ module _ {mv l marks : List ℕ} {nodes : List Node} {node limit n q : ℕ} (a :
 
     module _ {l₁ l₂ m₁ ys : List ℕ} {r₁ r₂ : ℕ} (u : Leaves mv l l₁ marks m₁ nodes (path .first) (limit - 1) n q r₁)
         (w : Leaves mv l₁ l₂ (rest m₁ n) ys nodes (path .second) (limit - 1) n q r₂) where
-      abbrev pub may-chance : ChanceAsked mv l₂ (back m₁ n ys) n q (path .hours) p
+      abbrev pub may-chance : ChanceAsked mv l₂ (back m₁ n ys) n q (path .hundredths) p
       may-chance =
           record {
             c = a .c;
@@ -153,7 +153,7 @@ module _ {mv l marks : List ℕ} {nodes : List Node} {node limit n q : ℕ} (a :
           }
 
       pub chance-decided : {l₃ m₃ : List ℕ} {r : ℕ}
-          → ((b : ChanceAsked mv l₂ (back m₁ n ys) n q (path .hours) p) → ChanceLeaves b (comparisonOf sign) l₃ m₃ r)
+          → ((b : ChanceAsked mv l₂ (back m₁ n ys) n q (path .hundredths) p) → ChanceLeaves b (comparisonOf sign) l₃ m₃ r)
           → Decides (a .c) (formulaOf a) n l l₃ marks m₃ r
       chance-decided t =
           let z = t may-chance (found (a .c) (under a (path .first))) (found (a .c) (under a (path .second)))

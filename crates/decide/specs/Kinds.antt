@@ -3,7 +3,7 @@ use mathlib.Core.Path.{_≡_}
 use mathlib.Core.List.{List}
 use Prim.Native.Nat.{ℕ, _+_, _*_, _≤_, _<_}
 use lib.ListN.{length}
-use Rattle.csl.specs.Limits.{mostStates, mostThreshold, mostRateHours}
+use Rattle.csl.specs.Limits.{mostStates, mostThreshold, mostRateHundredths}
 use Rattle.csl.specs.Formula.{PathOf, untilOf, Comparison}
 use Rattle.csl.specs.Chain.{Chain}
 use Rattle.csl.specs.Verdicts.{Verdict}
@@ -55,12 +55,12 @@ pub record PathDecides (c : Chain) (r : Comparison) (p : ℕ) (o : PathOf (ℕ �
   pub range : EndsIn n l
   pub deep : d ≡ meaning c o .depth
 
--- A `P` with the threshold p, of a path over t hours, is to be decided from the rows of its operands.
+-- A `P` with the threshold p, of a path over t hundredths of an hour, is to be decided from the rows of its operands.
 pub record ChanceAsked (mv l marks : List ℕ) (n q t p : ℕ) : Type 0 where
   pub c : Chain
   pub shows : Shows c mv (length mv) n
   pub prepared : Prepared mv l n q
-  pub load : q * t ≤ mostRateHours
+  pub load : q * t ≤ mostRateHundredths
   pub threshold : p ≤ mostThreshold
   pub held : n + n ≤ length marks
 

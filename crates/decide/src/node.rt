@@ -82,12 +82,12 @@ pub fn chance(
     comparison: Comparison,
     threshold: u64,
 ) -> usize
-    requires { ⌜ ChanceAsked (now moves) (now vectors) (now marks) n q (path .hours) threshold ⌝ }
-    ensures { λ r. ⌜ ((a : ChanceAsked (now (moves .entry)) (now (vectors .entry)) (now (marks .entry)) n q (path .hours) threshold)
+    requires { ⌜ ChanceAsked (now moves) (now vectors) (now marks) n q (path .hundredths) threshold ⌝ }
+    ensures { λ r. ⌜ ((a : ChanceAsked (now (moves .entry)) (now (vectors .entry)) (now (marks .entry)) n q (path .hundredths) threshold)
         → ChanceLeaves a (comparisonOf comparison) (now (vectors .exit)) (now (marks .exit)) r) ⌝ }
 {
     let rows = &marks[..];
-    let depth = until::until(moves, vectors, rows, &rows[n..], n, q, path.hours);
+    let depth = until::until(moves, vectors, rows, &rows[n..], n, q, path.hundredths);
     verdict_rows::judge(vectors, comparison, threshold as u32, marks, n);
     clear_second(marks, n);
     depth

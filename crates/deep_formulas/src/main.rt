@@ -33,9 +33,9 @@ fn tested(text: &[u8], count: usize, labels: bool, limits: bool, load: bool) {
     say(formula::all_pass(row, Test::Load(64000000)) == load);
 }
 
-// The outermost of the three nodes of the small sheet's formula.
-fn small() {
-    let r = formula::read(b"P >= 1000000000 U 0 up dead\n", b",up,dead");
+// The outermost of the three nodes of an until has this threshold and these hundredths of an hour.
+fn until(text: &[u8], asked: u64, time: u64) {
+    let r = formula::read(text, b",up,dead");
     let row = r.nodes;
     let x = row.nodes[2];
     let k = x.kind;
@@ -44,7 +44,9 @@ fn small() {
             comparison: _,
             threshold,
             path,
-        } => say(threshold == 1000000000 && path.hours == 0 && path.first == 0 && path.second == 1),
+        } => say(
+            threshold == asked && path.hundredths == time && path.first == 0 && path.second == 1,
+        ),
         Kind::Always => say(false),
         Kind::Label(_) => say(false),
         Kind::Negated(_) => say(false),
@@ -98,11 +100,32 @@ fn wrong_numbers() {
     broken(b"P < 1 V 1 up dead\n");
 }
 
+// Hours that are no number with one or two decimals, the last not 0; a threshold with decimals.
+fn wrong_hours() {
+    broken(b"P < 1 U 8.50 up dead\n");
+    broken(b"P < 1 U 8.0 up dead\n");
+    broken(b"P < 1 U 8. up dead\n");
+    broken(b"P < 1 U .5 up dead\n");
+    broken(b"P < 1 U 00.5 up dead\n");
+    broken(b"P < 1 U 8.125 up dead\n");
+    broken(b"P < 1 U 8.2.5 up dead\n");
+    broken(b"P < 1.5 U 8 up dead\n");
+}
+
+// Hours, read as hundredths.
+fn hours() {
+    until(b"P < 1 U 8 up dead\n", 1, 800);
+    until(b"P < 1 U 8.5 up dead\n", 1, 850);
+    until(b"P < 1 U 8.25 up dead\n", 1, 825);
+    until(b"P < 1 U 0.05 up dead\n", 1, 5);
+    until(b"P < 1 U 9999999999.99 up dead\n", 1, 999999999999);
+}
+
 // Small formulas, accepted.
 fn plain() {
     sized(b"tt\n", 1, 1);
     sized(b"P < 9999999999 U 8 & a b ! tt\n", 6, 3);
-    small();
+    until(b"P >= 1000000000 U 0 up dead\n", 1000000000, 0);
     tested(b"& up ! dead\n", 4, true, true, true);
     tested(b"! ! ! ! ! ! ! ! ! ! ! ! ! ! ! up\n", 16, true, true, true);
 }
@@ -127,8 +150,9 @@ fn refused() {
     tested(b"& gas up\n", 3, false, true, true);
     tested(b"state\n", 1, false, true, true);
     tested(b"P < 1 U 8761 up dead\n", 3, true, false, false);
+    tested(b"P < 1 U 8760.01 up dead\n", 3, true, false, false);
     tested(b"P < 1000000001 U 1 up dead\n", 3, true, false, true);
-    tested(b"! P < 1 U 2 up dead\n", 4, true, true, false);
+    tested(b"! P < 1 U 1.01 up dead\n", 4, true, true, false);
 }
 
 // All of them.
@@ -137,6 +161,8 @@ fn main() {
     deep_faults();
     wrong();
     wrong_numbers();
+    wrong_hours();
+    hours();
     plain();
     refused();
 }

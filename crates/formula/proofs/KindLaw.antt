@@ -88,7 +88,7 @@ module _ (s : Text) (i : ℕ) (h : Amount) (is : HoursRead (tokens s) h) where
   route-none e c p = rw (is (λ t. pair hollow (λ a b. csl.chance (comparisonOf c) p (csl.until t a b))), e)
 
   pub route-some : (t : ℕ) (u : Text) (n first second : ℕ) → h ≡ amount.Is t → u ≡ afterPart space (afterPart space s) → n ≡ nodesSecond (tokens u)
-      → first ≡ i - suc n → second ≡ i - 1 → RouteRead i (tokens s) (route.Is (record { hours = t; first = first; second = second }))
+      → first ≡ i - suc n → second ≡ i - 1 → RouteRead i (tokens s) (route.Is (record { hundredths = t; first = first; second = second }))
   unfolding path pair andThen
   route-some t u n first second e v q x y c p =
       rw (is (λ t. pair hollow (λ a b. csl.chance (comparisonOf c) p (csl.until t a b))), e, two-tail s u v, ← q, held-again, x, y)

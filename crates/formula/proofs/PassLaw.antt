@@ -8,17 +8,18 @@ use mathlib.Core.Logic.{⊎-elim}
 use mathlib.Core.Bool.{Bool, true, false, and-false}
 use lib.Dec.{leb}
 use borrow.Author.Tests.{le-leb, lt-leb, leb-true, leb-false}
+use Rattle.csl.specs.Limits.{mostRateHundredths}
 use Rattle.formula.specs.Pass.{lightOf, allBelow}
 
 pub light-none : (q t : ℕ) → q ≡ 0 → true ≡ lightOf q t
-light-none q t e = sym (le-leb (q * t) 64000000 (rw e (omega arith)))
+light-none q t e = sym (le-leb (q * t) mostRateHundredths (rw e (omega arith)))
 
-pub light-some : (q t : ℕ) → (q ≡ 0 → ⊥) → leb t (64000000 / q) ≡ lightOf q t
-light-some q t h = go (leb t (64000000 / q)) refl
+pub light-some : (q t : ℕ) → (q ≡ 0 → ⊥) → leb t (mostRateHundredths / q) ≡ lightOf q t
+light-some q t h = go (leb t (mostRateHundredths / q)) refl
   where
-    go : (p : Bool) → leb t (64000000 / q) ≡ p → p ≡ lightOf q t
-    go true e = sym (le-leb (q * t) 64000000 (omega (arith, le-div-iff-mul-le {k = q} {x = t} {y = 64000000} (omega arith) .0 (leb-true _ _ e))))
-    go false e = sym (lt-leb (q * t) 64000000 (omega (arith, div-lt-iff-lt-mul {k = q} {x = 64000000} {y = t} (omega arith) .0 (leb-false _ _ e))))
+    go : (p : Bool) → leb t (mostRateHundredths / q) ≡ p → p ≡ lightOf q t
+    go true e = sym (le-leb (q * t) mostRateHundredths (omega (arith, le-div-iff-mul-le {k = q} {x = t} {y = mostRateHundredths} (omega arith) .0 (leb-true _ _ e))))
+    go false e = sym (lt-leb (q * t) mostRateHundredths (omega (arith, div-lt-iff-lt-mul {k = q} {x = mostRateHundredths} {y = t} (omega arith) .0 (leb-false _ _ e))))
 
 module _ (p : ℕ → Bool) where
   pub below-none : allBelow p 0 ≡ true

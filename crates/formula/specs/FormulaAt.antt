@@ -52,5 +52,5 @@ module _ (names : List Text) (d : ℕ) (nodes : List Node) (i : ℕ) where
 
   pub at-chance : (c : Comparison) (p : ℕ) (path : Path) → kindAt nodes i ≡ kind.Chance c p path
       → formulaAt names (suc d) nodes i
-      ≡ chance (comparisonOf c) p (until (path .hours) (formulaAt names d nodes (path .first)) (formulaAt names d nodes (path .second)))
+      ≡ chance (comparisonOf c) p (until (path .hundredths) (formulaAt names d nodes (path .first)) (formulaAt names d nodes (path .second)))
   at-chance c p path e = at-kind (kind.Chance c p path) e

@@ -26,7 +26,7 @@ held csl.More = More
 
 -- The outermost node of a formula, at place i; n are the nodes of its last operand, which stand right before it.
 abbrev pub pathHeld : ℕ → ℕ → csl.Path → Path
-pathHeld i n (until t a b) = record { hours = t; first = i - suc n; second = i - 1 }
+pathHeld i n (until t a b) = record { hundredths = t; first = i - suc n; second = i - 1 }
 
 abbrev pub kindHeld : List Text → ℕ → ℕ → Formula → Kind
 kindHeld names i n always = kind.Always

@@ -29,7 +29,7 @@ same-throughout (suc n) (suc i) x = same-throughout n i x
 
 -- the paper's path formula over places
 abbrev pub pathMeant : Path → PathOf ℕ
-pathMeant path = untilOf (path .hours) (path .first) (path .second)
+pathMeant path = untilOf (path .hundredths) (path .first) (path .second)
 
 -- a label's place is that of a name
 abbrev pub LabelKnown : List Text → Kind → Type 0

@@ -3,7 +3,7 @@ use Prim.Native.Nat.{ℕ, zero, suc, _*_}
 use mathlib.Core.List.{List}
 use mathlib.Core.Bool.{Bool, true, _&&_}
 use lib.Dec.{leb, ltb}
-use Rattle.csl.specs.Limits.{mostThreshold, mostHours, mostRateHours}
+use Rattle.csl.specs.Limits.{mostThreshold, mostHundredths, mostRateHundredths}
 use Rattle.csl.specs.Formula.{PathOf, timesPass, phasesPass}
 use Rattle.formula.specs.declared.nodes.Kind.{Kind}
 use Rattle.formula.specs.declared.nodes.Kind.the-variants as kind
@@ -13,9 +13,9 @@ use Rattle.formula.specs.Nodes.{kindAt, pathMeant}
 use Rattle.formula.specs.declared.pass.Test.{Test}
 use Rattle.formula.specs.declared.pass.Test.the-variants.{Labels, Limits, Load}
 
--- a rate times hours within the limit
+-- a rate times hundredths of an hour within the limit
 abbrev pub lightOf : ℕ → ℕ → Bool
-lightOf q t = leb (q * t) mostRateHours
+lightOf q t = leb (q * t) mostRateHundredths
 
 -- what a label's place, and the threshold and the path formula of a `P`, have to pass
 abbrev pub placePasses : Test → ℕ → Bool
@@ -25,7 +25,7 @@ placePasses (Load q) i = true
 
 abbrev pub pathPasses : {A : Type 0} → Test → ℕ → PathOf A → Bool
 pathPasses (Labels names) p o = true
-pathPasses Limits p o = leb p mostThreshold && timesPass (λ t. leb t mostHours) o
+pathPasses Limits p o = leb p mostThreshold && timesPass (λ t. leb t mostHundredths) o
 pathPasses (Load q) p o = phasesPass (lightOf q) o
 
 abbrev pub passed : Test → Kind → Bool

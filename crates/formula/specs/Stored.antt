@@ -10,7 +10,7 @@ use lib.Seq.{getD-append-add}
 use lib.Dec.{leb, ltb}
 use borrow.Author.Tests.{ltb-true, ltb-false}
 use Rattle.csl.specs.Text.{Text, among}
-use Rattle.csl.specs.Limits.{mostLevels, mostThreshold, mostHours, mostRateHours}
+use Rattle.csl.specs.Limits.{mostLevels, mostThreshold, mostHundredths, mostRateHundredths}
 use Rattle.csl.specs.Labels.{placeOf}
 use Rattle.csl.specs.Formula as csl
 use Rattle.csl.specs.Formula.{Formula, nodes, nodesIn, levels, levelsIn, labelsPass, pathsPass, timesPass, phasesPass}
@@ -95,9 +95,9 @@ module _ (names : List Text) (f : Formula) where
       stored-tests (Labels (length names)) ∙ labels-tree _ f ∙ ap (λ (p : Text → Bool). labelsPass p f) (λ i w. among-place names w i)
 
   -- 13: "threshold over 1,000,000,000 or hours over 8,760"
-  pub limits-tested : allPassed Limits (stored names f) ≡ pathsPass (λ p o. leb p mostThreshold && timesPass (λ t. leb t mostHours) o) f
+  pub limits-tested : allPassed Limits (stored names f) ≡ pathsPass (λ p o. leb p mostThreshold && timesPass (λ t. leb t mostHundredths) o) f
   limits-tested = stored-tests Limits ∙ paths-tree _ f
 
   -- 14: "q × t over 64,000,000 for some until"
-  pub load-tested : (q : ℕ) → allPassed (Load q) (stored names f) ≡ pathsPass (λ p o. phasesPass (λ t. leb (q * t) mostRateHours) o) f
+  pub load-tested : (q : ℕ) → allPassed (Load q) (stored names f) ≡ pathsPass (λ p o. phasesPass (λ t. leb (q * t) mostRateHundredths) o) f
   load-tested q = stored-tests (Load q) ∙ paths-tree _ f

@@ -67,8 +67,8 @@ fn read_path(s: &[u8], i: usize) -> Route
 {
     match grammar::read_hours(s) {
         Amount::Missing => Route::Missing,
-        Amount::Is(hours) => Route::Is(Path {
-            hours: hours,
+        Amount::Is(hundredths) => Route::Is(Path {
+            hundredths: hundredths,
             first: before(i, second_nodes(grammar::after_two(s))),
             second: before(i, 0),
         }),

@@ -2,8 +2,8 @@
 use crate::nodes::Kind;
 use crate::nodes::Nodes;
 use crate::nodes::Path;
-use limits::MOST_HOURS;
-use limits::MOST_RATE_HOURS;
+use limits::MOST_HUNDREDTHS;
+use limits::MOST_RATE_HUNDREDTHS;
 use limits::MOST_THRESHOLD;
 ghost use mathlib.Core.Path.{_≡_};
 ghost use Prim.Native.Nat.{_≤_};
@@ -11,22 +11,22 @@ ghost use Rattle.csl.specs.Limits.{mostNodes};
 ghost use Rattle.formula.specs.Nodes.{pathMeant};
 ghost use Rattle.formula.specs.Pass.{lightOf, placePasses, pathPasses, passed, allPassed};
 
-// What is asked of every node: a label's place below a number of names; thresholds and hours within their limits; a rate times the hours
-// within its limit.
+// What is asked of every node: a label's place below a number of names; thresholds and hours within their limits; a rate times the
+// hours, in hundredths, within its limit.
 pub enum Test {
     Labels(usize),
     Limits,
     Load(u64),
 }
 
-// The rate times the hours is within its limit.
-fn light(rate: u64, hours: u64) -> bool
-    ensures { λ r. ⌜ r ≡ lightOf rate hours ⌝ }
+// The rate times the hundredths of an hour is within its limit.
+fn light(rate: u64, hundredths: u64) -> bool
+    ensures { λ r. ⌜ r ≡ lightOf rate hundredths ⌝ }
 {
     if rate == 0 {
         return true;
     }
-    hours <= MOST_RATE_HOURS / rate
+    hundredths <= MOST_RATE_HUNDREDTHS / rate
 }
 
 // Whether a label's place passes a test.
@@ -46,8 +46,8 @@ fn path_passes(test: Test, threshold: u64, path: Path) -> bool
 {
     match test {
         Test::Labels(_) => true,
-        Test::Limits => threshold <= MOST_THRESHOLD && path.hours <= MOST_HOURS,
-        Test::Load(rate) => light(rate, path.hours),
+        Test::Limits => threshold <= MOST_THRESHOLD && path.hundredths <= MOST_HUNDREDTHS,
+        Test::Load(rate) => light(rate, path.hundredths),
     }
 }
 

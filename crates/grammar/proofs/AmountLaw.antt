@@ -1,17 +1,17 @@
 -- A token is a number where the digits at its start are one and nothing follows them. Assumes nothing.
 use mathlib.Core.Path.{_≡_, refl, sym, _∙_, ap}
-use Prim.Native.Nat.{ℕ, suc}
+use Prim.Native.Nat.{ℕ, suc, _<_}
 use native.Mathlib.Omega.{arith}
 use mathlib.Core.Bool.{Bool, true, false, cond, _&&_, and-eq-true-iff}
 use mathlib.Core.List.{[], _∷_}
+use mathlib.Core.Option.{none, some}
 use lib.ListN.{length}
 use Rattle.csl.specs.Text.{Text, every}
 use Rattle.csl.specs.Number.{isDigit, isNumber, valueOf}
-use Rattle.texts.specs.Digits.{digitRun, numberAt, usedBy}
+use Rattle.texts.specs.Digits.{digitRun, numberAt, usedBy, NumberFits}
 use Rattle.texts.specs.declared.digits.Num.{Num}
 use Rattle.texts.specs.declared.digits.Num.the-variants.{Value, Bad}
-use Rattle.grammar.specs.Chance.{amountOf}
-use Rattle.grammar.specs.declared.chance.Amount.the-variants.{Is, Missing}
+use Rattle.csl.specs.Grammar.{numberOf}
 
 -- all of it are digits
 run-whole : (w : Text) → every isDigit w ≡ true → digitRun w ≡ w
@@ -43,28 +43,28 @@ unfolding numberAt
 number-read w e = rw (run-whole w (number-digits w e), e)
 
 module _ (w : Text) (n : Num) (read : n ≡ numberAt 10 w) where
-  pub amount-bad : n ≡ Bad → Missing ≡ amountOf w
-  unfolding amountOf
+  pub amount-bad : n ≡ Bad → none ≡ numberOf w
+  unfolding numberOf
   amount-bad e = go (isNumber 10 w) refl
     where
-      go : (p : Bool) → isNumber 10 w ≡ p → Missing ≡ cond p (Is (valueOf w)) Missing
+      go : (p : Bool) → isNumber 10 w ≡ p → none ≡ cond p (some (valueOf w)) none
       go true q = let z : _≡_ {A = ℕ} 0 1 = cc (number-read w q) in absurd (omega arith)
       go false q = refl
 
-  pub amount-short : (v k : ℕ) → n ≡ Value v k → (k ≡ length w → ⊥) → Missing ≡ amountOf w
-  unfolding amountOf
+  pub amount-short : (v k : ℕ) → n ≡ Value v k → (k ≡ length w → ⊥) → none ≡ numberOf w
+  unfolding numberOf
   amount-short v k e h = go (isNumber 10 w) refl
     where
-      go : (p : Bool) → isNumber 10 w ≡ p → Missing ≡ cond p (Is (valueOf w)) Missing
+      go : (p : Bool) → isNumber 10 w ≡ p → none ≡ cond p (some (valueOf w)) none
       go true q = absurd (h (cc (number-read w q)))
       go false q = refl
 
-  pub amount-whole : (v k : ℕ) → n ≡ Value v k → k ≡ length w → Is v ≡ amountOf w
-  unfolding amountOf numberAt
+  pub amount-whole : (v k : ℕ) → n ≡ Value v k → k ≡ length w → some v ≡ numberOf w
+  unfolding numberOf numberAt
   amount-whole v k e h = go (isNumber 10 (digitRun w)) refl (sym read ∙ e)
     where
       go : (p : Bool) → isNumber 10 (digitRun w) ≡ p → cond p (Value (valueOf (digitRun w)) (length (digitRun w))) Bad ≡ Value v k
-          → Is v ≡ cond (isNumber 10 w) (Is (valueOf w)) Missing
+          → some v ≡ cond (isNumber 10 w) (some (valueOf w)) none
       go true q r =
           let l : length (digitRun w) ≡ length w = ap usedBy r ∙ h in
           let d = run-long w l in
@@ -72,3 +72,6 @@ module _ (w : Text) (n : Num) (read : n ≡ numberAt 10 w) where
           let g : valueOf (digitRun w) ≡ v = cc in
           rw (f, ← g, d)
       go false q r = let z : _≡_ {A = ℕ} 0 1 = cc in absurd (omega arith)
+
+  pub amount-fits : (size : ℕ) → NumberFits size n → (v k : ℕ) → n ≡ Value v k → v < 10000000000
+  amount-fits size f v k e = (rw e at f) .0

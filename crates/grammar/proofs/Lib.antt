@@ -4,3 +4,4 @@ pub mod HeadLaw
 pub mod SignLaw
 pub mod AmountLaw
 pub mod BoundLaw
+pub mod HoursLaw

@@ -1,14 +1,13 @@
 -- What the code's comparisons, numbers and bounds stand for, and how csl's reader goes on behind them. Assumes nothing.
-use Prim.Native.Nat.{ℕ}
-use mathlib.Core.Bool.{cond}
+use Prim.Native.Nat.{ℕ, _<_}
 use mathlib.Core.Path.{_≡_}
 use mathlib.Core.List.{List, tail}
 use mathlib.Core.Option.{Option, none, some}
 use Rattle.csl.specs.Text.{Text, bytes}
-use Rattle.csl.specs.Limits.{formulaDigits}
-use Rattle.csl.specs.Number.{isNumber, valueOf}
+use Rattle.csl.specs.Hours.{hundredthsOf}
 use Rattle.csl.specs.Formula as formula
-use Rattle.csl.specs.Grammar.{Found, nothing, onComparison, onNumber, onWord}
+use Rattle.csl.specs.Grammar as grammar
+use Rattle.csl.specs.Grammar.{Found, nothing, numberOf, onToken, onWord}
 use Rattle.verdicts.specs.Paper.{comparisonOf}
 use Rattle.grammar.specs.declared.chance.Sign.{Sign}
 use Rattle.grammar.specs.declared.chance.Sign.the-variants as sign
@@ -21,9 +20,14 @@ abbrev pub signMeant : Sign → Option formula.Comparison
 signMeant (sign.Is c) = some (comparisonOf c)
 signMeant sign.Missing = none
 
--- the number that a token of the formula spells
-unfoldable pub amountOf : Text → Amount
-amountOf w = cond (isNumber formulaDigits w) (amount.Is (valueOf w)) amount.Missing
+abbrev pub amountMeant : Amount → Option ℕ
+amountMeant (amount.Is v) = some v
+amountMeant amount.Missing = none
+
+-- one of at most 10 digits
+abbrev pub AmountFits : Amount → Type 0
+AmountFits (amount.Is v) = v < 10000000000
+AmountFits amount.Missing = Unit {0}
 
 -- what comes behind a bound, or behind hours, that were read: nothing where they are missing
 abbrev pub boundThen : Bound → (formula.Comparison → ℕ → List Text → Found) → List Text → Found
@@ -36,7 +40,8 @@ hoursThen amount.Missing next ts = nothing
 
 -- what was read of the first two tokens: csl's reader goes on behind a comparison and a threshold, or behind `U` and the hours, or stops there
 abbrev pub BoundRead : List Text → Bound → Type 0
-BoundRead ts b = (next : formula.Comparison → ℕ → List Text → Found) → onComparison ts (λ c more. onNumber more (next c)) ≡ boundThen b next (tail (tail ts))
+BoundRead ts b = (next : formula.Comparison → ℕ → List Text → Found)
+    → onToken grammar.comparisonOf ts (λ c more. onToken numberOf more (next c)) ≡ boundThen b next (tail (tail ts))
 
 abbrev pub HoursRead : List Text → Amount → Type 0
-HoursRead ts h = (next : ℕ → List Text → Found) → onWord (bytes "U") ts (λ more. onNumber more next) ≡ hoursThen h next (tail (tail ts))
+HoursRead ts h = (next : ℕ → List Text → Found) → onWord (bytes "U") ts (λ more. onToken hundredthsOf more next) ≡ hoursThen h next (tail (tail ts))

@@ -8,11 +8,10 @@ use mathlib.Core.List.{List, [], _∷_, headD, tail}
 use mathlib.Core.Option.{Option, none, some}
 use lib.ListN.{length}
 use Rattle.csl.specs.Text.{Text, same, every}
-use Rattle.csl.specs.Limits.{formulaDigits}
-use Rattle.csl.specs.Number.{isNumber, valueOf}
 use Rattle.csl.specs.Labels.{isWord}
+use Rattle.csl.specs.Hours.{hundredthsOf}
 use Rattle.csl.specs.Formula.{Formula, both, chance, until, Comparison}
-use Rattle.csl.specs.Grammar.{Found, nothing, found, Reader, andThen, comparisonOf, onComparison, onNumber, onWord, pair, path, Head, truth, name, bang, ampersand, chances, other, headOf, state, readState}
+use Rattle.csl.specs.Grammar.{Found, nothing, found, Reader, andThen, comparisonOf, numberOf, onToken, onWord, pair, path, Head, truth, name, bang, ampersand, chances, other, headOf, state, readState}
 use Rattle.grammar.specs.Left.{Leaves, none-read, left, Steady, steps-leave, last-length}
 
 -- a state formula at the head of the tokens, as csl reads it
@@ -23,26 +22,16 @@ read ts = readState (length ts) ts
 abbrev Agree : ℕ → Reader → Reader → Type 0
 Agree n r s = (ts : List Text) → length ts ≤ n → r ts ≡ s ts
 
--- what reads on after a comparison, a number or a word may be put for what does the same on all shorter tokens
-comparison-agrees : (ts : List Text) (f g : Comparison → List Text → Found)
-    → ((c : Comparison) → (more : List Text) → length more ≤ length ts → f c more ≡ g c more) → onComparison ts f ≡ onComparison ts g
-unfolding onComparison
-comparison-agrees [] f g h = refl
-comparison-agrees (w ∷ ts) f g h = go (comparisonOf w)
+-- what reads on after a token that spells something, or after a word, may be put for what does the same on all shorter tokens
+token-agrees : {A : Type 0} (spelled : Text → Option A) (ts : List Text) (f g : A → List Text → Found)
+    → ((a : A) → (more : List Text) → length more ≤ length ts → f a more ≡ g a more) → onToken spelled ts f ≡ onToken spelled ts g
+unfolding onToken
+token-agrees spelled [] f g h = refl
+token-agrees {A} spelled (w ∷ ts) f g h = go (spelled w)
   where
-    go : (o : Option Comparison) → _≡_ {A = Found} (elim o [ none ↦ nothing | some c ↦ f c ts ]) (elim o [ none ↦ nothing | some c ↦ g c ts ])
+    go : (o : Option A) → _≡_ {A = Found} (elim o [ none ↦ nothing | some a ↦ f a ts ]) (elim o [ none ↦ nothing | some a ↦ g a ts ])
     go none = refl
-    go (some c) = h c ts (omega arith)
-
-number-agrees : (ts : List Text) (f g : ℕ → List Text → Found)
-    → ((p : ℕ) → (more : List Text) → length more ≤ length ts → f p more ≡ g p more) → onNumber ts f ≡ onNumber ts g
-unfolding onNumber
-number-agrees [] f g h = refl
-number-agrees (w ∷ ts) f g h = go (isNumber formulaDigits w)
-  where
-    go : (o : Bool) → _≡_ {A = Found} (elim o [ true ↦ f (valueOf w) ts | false ↦ nothing ]) (elim o [ true ↦ g (valueOf w) ts | false ↦ nothing ])
-    go true = h (valueOf w) ts (omega arith)
-    go false = refl
+    go (some a) = h a ts (omega arith)
 
 word-agrees : (x : Text) (ts : List Text) (f g : List Text → Found)
     → ((more : List Text) → length more ≤ length ts → f more ≡ g more) → onWord x ts f ≡ onWord x ts g
@@ -67,7 +56,7 @@ module _ (n : ℕ) (r s : Reader) (agree : Agree n r s) (steady : Steady s) wher
   path-agrees : (c : Comparison) (p : ℕ) → Agree n (path r c p) (path s c p)
   unfolding path
   path-agrees c p ts h =
-      word-agrees _ ts _ _ λ more k. number-agrees more _ _ λ t rest l. pair-agrees (λ a b. chance c p (until t a b)) rest (omega arith)
+      word-agrees _ ts _ _ λ more k. token-agrees hundredthsOf more _ _ λ t rest l. pair-agrees (λ a b. chance c p (until t a b)) rest (omega arith)
 
   state-agrees : (w : Text) (h : Head) → Agree n (state r w h) (state s w h)
   unfolding state andThen
@@ -76,7 +65,7 @@ module _ (n : ℕ) (r s : Reader) (agree : Agree n r s) (steady : Steady s) wher
   state-agrees w bang ts l = rw (agree ts l)
   state-agrees w ampersand ts l = pair-agrees both ts l
   state-agrees w chances ts l =
-      comparison-agrees ts _ _ λ c more k. number-agrees more _ _ λ p rest m. path-agrees c p rest (omega arith)
+      token-agrees comparisonOf ts _ _ λ c more k. token-agrees numberOf more _ _ λ p rest m. path-agrees c p rest (omega arith)
   state-agrees w other ts l = refl
 
 steps-empty : (k : ℕ) → readState k [] ≡ nothing

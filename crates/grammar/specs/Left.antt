@@ -8,10 +8,9 @@ use mathlib.Core.Option.{Option, none, some}
 use lib.ListN.{length, drop, length-drop}
 use lib.Seq.{drop-drop}
 use Rattle.csl.specs.Text.{Text, same}
-use Rattle.csl.specs.Limits.{formulaDigits}
-use Rattle.csl.specs.Number.{isNumber, valueOf}
+use Rattle.csl.specs.Hours.{hundredthsOf}
 use Rattle.csl.specs.Formula.{Formula, both, chance, until, Comparison}
-use Rattle.csl.specs.Grammar.{Found, nothing, found, Reader, andThen, comparisonOf, onComparison, onNumber, onWord, pair, path, Head, truth, name, bang, ampersand, chances, other, headOf, state, readState}
+use Rattle.csl.specs.Grammar.{Found, nothing, found, Reader, andThen, comparisonOf, numberOf, onToken, onWord, pair, path, Head, truth, name, bang, ampersand, chances, other, headOf, state, readState}
 
 -- the last of the tokens ts
 pub record Last (ts rest : List Text) : Type 0 where
@@ -50,25 +49,15 @@ within : {ts us : List Text} {fd : Found} → Last ts us → Leaves us fd → Le
 within l none-read = none-read
 within l (left m) = left (last-last l m)
 
-comparison-leaves : (ts : List Text) (next : Comparison → List Text → Found) → ((r : Comparison) → (more : List Text) → Leaves more (next r more))
-    → Leaves ts (onComparison ts next)
-unfolding onComparison
-comparison-leaves [] next h = none-read
-comparison-leaves (w ∷ ts) next h = go (comparisonOf w)
+token-leaves : {A : Type 0} (spelled : Text → Option A) (ts : List Text) (next : A → List Text → Found)
+    → ((a : A) → (more : List Text) → Leaves more (next a more)) → Leaves ts (onToken spelled ts next)
+unfolding onToken
+token-leaves spelled [] next h = none-read
+token-leaves {A} spelled (w ∷ ts) next h = go (spelled w)
   where
-    go : (o : Option Comparison) → Leaves (w ∷ ts) (elim o [ none ↦ nothing | some r ↦ next r ts ])
+    go : (o : Option A) → Leaves (w ∷ ts) (elim o [ none ↦ nothing | some a ↦ next a ts ])
     go none = none-read
-    go (some r) = within (last-more (last-all ts)) (h r ts)
-
-number-leaves : (ts : List Text) (next : ℕ → List Text → Found) → ((p : ℕ) → (more : List Text) → Leaves more (next p more))
-    → Leaves ts (onNumber ts next)
-unfolding onNumber
-number-leaves [] next h = none-read
-number-leaves (w ∷ ts) next h = go (isNumber formulaDigits w)
-  where
-    go : (o : Bool) → Leaves (w ∷ ts) (elim o [ true ↦ next (valueOf w) ts | false ↦ nothing ])
-    go false = none-read
-    go true = within (last-more (last-all ts)) (h (valueOf w) ts)
+    go (some a) = within (last-more (last-all ts)) (h a ts)
 
 word-leaves : (x : Text) (ts : List Text) (next : List Text → Found) → ((more : List Text) → Leaves more (next more)) → Leaves ts (onWord x ts next)
 unfolding onWord
@@ -87,7 +76,7 @@ module _ (read : Reader) (steady : Steady read) where
 
   pub path-leaves : (r : Comparison) (p : ℕ) → Steady (path read r p)
   unfolding path
-  path-leaves r p ts = word-leaves _ ts _ λ more. number-leaves more _ λ t rest. pair-leaves (λ a b. chance r p (until t a b)) rest
+  path-leaves r p ts = word-leaves _ ts _ λ more. token-leaves hundredthsOf more _ λ t rest. pair-leaves (λ a b. chance r p (until t a b)) rest
 
   pub state-leaves : (w : Text) (h : Head) → Steady (state read w h)
   unfolding state
@@ -95,7 +84,7 @@ module _ (read : Reader) (steady : Steady read) where
   state-leaves w name ts = left (last-all ts)
   state-leaves w bang ts = then-leaves _ (steady ts) λ a rest l. left l
   state-leaves w ampersand ts = pair-leaves both ts
-  state-leaves w chances ts = comparison-leaves ts _ λ r more. number-leaves more _ λ p rest. path-leaves r p rest
+  state-leaves w chances ts = token-leaves comparisonOf ts _ λ r more. token-leaves numberOf more _ λ p rest. path-leaves r p rest
   state-leaves w other ts = none-read
 
 pub steps-leave : (k : ℕ) → Steady (readState k)

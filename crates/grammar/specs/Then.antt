@@ -1,38 +1,45 @@
--- How csl's reader goes on behind a comparison, a number and a word: by the first token, an empty one where there is none. Assumes nothing.
+-- How csl's reader goes on behind a token that spells something and behind a word: by the first token, an empty one where there is none,
+-- which spells nothing. Assumes nothing.
 use mathlib.Core.Path.{_≡_, refl}
 use Prim.Native.Nat.{ℕ}
 use mathlib.Core.Bool.{Bool, true, false, cond}
 use mathlib.Core.List.{List, [], _∷_, headD, tail}
 use mathlib.Core.Option.{Option, none, some}
 use Rattle.csl.specs.Text.{Text, same, every}
-use Rattle.csl.specs.Limits.{formulaDigits}
-use Rattle.csl.specs.Number.{isNumber, valueOf}
+use Rattle.csl.specs.Number.{isNumber}
+use Rattle.csl.specs.Line.{parts}
+use Rattle.csl.specs.Hours.{hundredthsIn, hundredthsOf}
 use Rattle.csl.specs.Formula.{Comparison}
-use Rattle.csl.specs.Grammar.{Found, nothing, comparisonOf, onComparison, onNumber, onWord}
+use Rattle.csl.specs.Grammar.{Found, nothing, comparisonOf, numberOf, onToken, onWord}
 
-abbrev pub comparisonThen : Option Comparison → (Comparison → List Text → Found) → List Text → Found
-comparisonThen none next ts = nothing
-comparisonThen (some r) next ts = next r ts
+abbrev pub tokenThen : {A : Type 0} → Option A → (A → List Text → Found) → List Text → Found
+tokenThen none next ts = nothing
+tokenThen (some a) next ts = next a ts
 
-pub comparison-then : (ts : List Text) (next : Comparison → List Text → Found)
-    → onComparison ts next ≡ comparisonThen (comparisonOf (headD ts [])) next (tail ts)
-unfolding onComparison comparisonOf headD same
-comparison-then [] next = refl
-comparison-then (w ∷ ts) next = go (comparisonOf w)
+token-then : {A : Type 0} (spelled : Text → Option A) → spelled [] ≡ none → (ts : List Text) (next : A → List Text → Found)
+    → onToken spelled ts next ≡ tokenThen (spelled (headD ts [])) next (tail ts)
+unfolding onToken headD
+token-then spelled empty [] next = rw empty refl
+token-then {A} spelled empty (w ∷ ts) next = go (spelled w)
   where
-    go : (o : Option Comparison) → _≡_ {A = Found} (elim o [ none ↦ nothing | some r ↦ next r ts ]) (comparisonThen o next ts)
+    go : (o : Option A) → _≡_ {A = Found} (elim o [ none ↦ nothing | some a ↦ next a ts ]) (tokenThen o next ts)
     go none = refl
-    go (some r) = refl
+    go (some a) = refl
 
-pub number-then : (ts : List Text) (next : ℕ → List Text → Found)
-    → onNumber ts next ≡ cond (isNumber formulaDigits (headD ts [])) (next (valueOf (headD ts [])) (tail ts)) nothing
-unfolding onNumber headD isNumber every
-number-then [] next = refl
-number-then (w ∷ ts) next = go (isNumber formulaDigits w)
-  where
-    go : (p : Bool) → _≡_ {A = Found} (elim p [ true ↦ next (valueOf w) ts | false ↦ nothing ]) (cond p (next (valueOf w) ts) nothing)
-    go true = refl
-    go false = refl
+-- a comparison, a number, hours
+pub comparison-then : (ts : List Text) (next : Comparison → List Text → Found)
+    → onToken comparisonOf ts next ≡ tokenThen (comparisonOf (headD ts [])) next (tail ts)
+unfolding comparisonOf same
+comparison-then = token-then comparisonOf refl
+
+pub number-then : (ts : List Text) (next : ℕ → List Text → Found) → onToken numberOf ts next ≡ tokenThen (numberOf (headD ts [])) next (tail ts)
+unfolding numberOf isNumber every
+number-then = token-then numberOf refl
+
+pub hours-then : (ts : List Text) (next : ℕ → List Text → Found)
+    → onToken hundredthsOf ts next ≡ tokenThen (hundredthsOf (headD ts [])) next (tail ts)
+unfolding hundredthsOf hundredthsIn parts isNumber every
+hours-then = token-then hundredthsOf refl
 
 pub word-then : (b : ℕ) (x : Text) (ts : List Text) (next : List Text → Found)
     → onWord (b ∷ x) ts next ≡ cond (same (headD ts []) (b ∷ x)) (next (tail ts)) nothing

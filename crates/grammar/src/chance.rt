@@ -1,11 +1,12 @@
-// What stands between `P` and its operands: a comparison, a threshold, `U` and whole hours.
+// What stands between `P` and its operands: a comparison, a threshold, `U` and hours.
+use crate::hours::read_hundredths;
 use limits::FORMULA_DIGITS;
 use texts::Num;
 use verdicts::Comparison;
 ghost use mathlib.Core.Path.{_≡_};
-ghost use Rattle.csl.specs.Grammar.{comparisonOf};
+ghost use Rattle.csl.specs.Grammar.{comparisonOf, numberOf};
 ghost use Rattle.grammar.specs.Tokens.{tokens};
-ghost use Rattle.grammar.specs.Chance.{signMeant, amountOf, BoundRead, HoursRead};
+ghost use Rattle.grammar.specs.Chance.{signMeant, amountMeant, AmountFits, BoundRead, HoursRead};
 
 // A comparison, or none.
 enum Sign {
@@ -45,8 +46,9 @@ fn read_sign(w: &[u8]) -> Sign
 }
 
 // The number that a token spells.
-fn read_amount(w: &[u8]) -> Amount
-    ensures { λ r. ⌜ r ≡ amountOf (now (w .entry)) ⌝ }
+pub fn read_amount(w: &[u8]) -> Amount
+    ensures { λ r. ⌜ amountMeant r ≡ numberOf (now (w .entry)) ⌝ }
+    ensures within { λ r. ⌜ AmountFits r ⌝ }
 {
     match texts::number(w, FORMULA_DIGITS) {
         Num::Bad => Amount::Missing,
@@ -74,13 +76,13 @@ pub fn read_bound(s: &[u8]) -> Bound
     }
 }
 
-// The hours behind `U`, the first two tokens: csl's reader goes on behind them, or stops there.
+// The hundredths of the hours behind `U`, the first two tokens: csl's reader goes on behind them, or stops there.
 pub fn read_hours(s: &[u8]) -> Amount
     ensures { λ r. ⌜ HoursRead (tokens (now (s .entry))) r ⌝ }
 {
     let t = texts::after(s, b' ');
     if texts::same(texts::part(s, b' '), b"U") {
-        read_amount(texts::part(t, b' '))
+        read_hundredths(texts::part(t, b' '))
     } else {
         Amount::Missing
     }

@@ -1,6 +1,7 @@
 // The tokens of a formula: what the first of a state formula says, and what a `P` is followed by. Besides, laws on the grammar.
 mod chance;
 mod head;
+mod hours;
 
 pub use chance::Amount;
 pub use chance::Bound;

@@ -17,9 +17,10 @@ pub record Tied (r : Limits) : Type 0 where
   pub nodes : r .nodes ≡ csl.mostNodes
   pub levels : r .levels ≡ csl.mostLevels
   pub threshold : r .threshold ≡ csl.mostThreshold
-  pub hours : r .hours ≡ csl.mostHours
-  pub load : r .load ≡ csl.mostRateHours
-  pub unit : r .unit ≡ csl.rateHours
+  pub hour : r .hour ≡ csl.hour
+  pub time : r .time ≡ csl.mostHundredths
+  pub load : r .load ≡ csl.mostRateHundredths
+  pub unit : r .unit ≡ csl.rateHundredths
   pub spare : r .spare ≡ csl.spareSteps
   pub places : r .places ≡ csl.vectorPlaces
   pub besides : r .besides ≡ csl.vectorSpare

@@ -33,15 +33,19 @@ pub const MOST_NODES: usize = 64;
 
 pub const MOST_LEVELS: usize = 16;
 
-// The most that an until names as its threshold and its hours, and the most of q times its hours.
+// The most that a `P` names as its threshold.
 pub const MOST_THRESHOLD: u64 = 1000000000;
 
-pub const MOST_HOURS: u64 = 8760;
+// Times count hundredths of an hour: an hour, in these.
+pub const HOUR: u64 = 100;
 
-pub const MOST_RATE_HOURS: u64 = 64000000;
+// The most that an until names as its hours, and the most of q times them.
+pub const MOST_HUNDREDTHS: u64 = 8760 * HOUR;
 
-// Rates count moves in so many hours.
-pub const RATE_HOURS: u64 = 1000000;
+pub const MOST_RATE_HUNDREDTHS: u64 = 64000000 * HOUR;
+
+// Rates count moves in so many hundredths of an hour.
+pub const RATE_HUNDREDTHS: u64 = 1000000 * HOUR;
 
 // The steps of a depth beyond twice the load.
 pub const SPARE_STEPS: u64 = 40;
@@ -66,7 +70,8 @@ struct Limits {
     nodes: usize,
     levels: usize,
     threshold: u64,
-    hours: u64,
+    hour: u64,
+    time: u64,
     load: u64,
     unit: u64,
     spare: u64,
@@ -92,9 +97,10 @@ fn all() -> Limits
         nodes: MOST_NODES,
         levels: MOST_LEVELS,
         threshold: MOST_THRESHOLD,
-        hours: MOST_HOURS,
-        load: MOST_RATE_HOURS,
-        unit: RATE_HOURS,
+        hour: HOUR,
+        time: MOST_HUNDREDTHS,
+        load: MOST_RATE_HUNDREDTHS,
+        unit: RATE_HUNDREDTHS,
         spare: SPARE_STEPS,
         places: VECTOR_PLACES,
         besides: VECTOR_SPARE,

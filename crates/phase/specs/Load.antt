@@ -4,28 +4,28 @@ use mathlib.Core.List.{List}
 use Prim.Native.Nat.{ℕ, _+_, _*_, _/_, _≤_, _<_}
 use native.Mathlib.Omega.{arith}
 use lib.ListN.{length}
-use Rattle.csl.specs.Limits.{mostStates, mostRateHours, rateHours, spareSteps}
+use Rattle.csl.specs.Limits.{mostStates, mostRateHundredths, rateHundredths, spareSteps}
 use Rattle.csl.specs.Fraction.{frac, roundUp}
 use Rattle.bounds.specs.Weight.{peak, low}
 use Rattle.bounds.specs.Ends.{total}
 use Rattle.weights.specs.Asked.{mostSteps}
 use Rattle.vectors.specs.Places.{at, weightsFrom, totalAt, vectorLength, weightAt, totalIn}
 
--- "The depth D is 2 × (L rounded up to a whole number) + 40", for a load of a millionths
+-- "The depth D is 2 × (L rounded up to a whole number) + 40", for a load of a hundred-millionths
 abbrev pub loadDepth : ℕ → ℕ
-loadDepth a = 2 * roundUp (frac a rateHours) + spareSteps
+loadDepth a = 2 * roundUp (frac a rateHundredths) + spareSteps
 
--- the greatest load that the numbers hold, 256, in millionths: that of 01 is 64
+-- the greatest load that the numbers hold, 256, in hundred-millionths: the greatest that is let pass is 64
 abbrev pub mostLoad : ℕ
-mostLoad = 256000000
+mostLoad = 256 * rateHundredths
 
 -- a load whose weights have room before their total
 pub record Loaded (n a : ℕ) : Type 0 where
   pub most : a ≤ mostLoad
   pub room : weightsFrom n + loadDepth a < totalAt n
 
--- every load that 01 allows has it: "q × t over 64,000,000" is refused
-pub light-loaded : (n a : ℕ) → a ≤ mostRateHours → Loaded n a
+-- every load that is let pass has it: "14 compares q × hundredths with 6,400,000,000"
+pub light-loaded : (n a : ℕ) → a ≤ mostRateHundredths → Loaded n a
 light-loaded n a h = record { most = omega arith; room = omega arith }
 
 -- weights to be worked out
@@ -39,8 +39,8 @@ pub record WeighAsked (l : List ℕ) (n a depth : ℕ) : Type 0 where
 -- the weights of steps 0 to depth and their total stand in their places; all other words are as they were
 pub record Weighed (n a depth : ℕ) (old new : List ℕ) : Type 0 where
   pub same : length new ≡ length old
-  pub weights : (k : ℕ) → k ≤ depth → weightAt new n k ≡ low a rateHours (a / rateHours) k
-  pub total : totalIn new n ≡ total a rateHours (a / rateHours) depth
+  pub weights : (k : ℕ) → k ≤ depth → weightAt new n k ≡ low a rateHundredths (a / rateHundredths) k
+  pub total : totalIn new n ≡ total a rateHundredths (a / rateHundredths) depth
   pub before : (k : ℕ) → k < weightsFrom n → at new k ≡ at old k
   pub after : (k : ℕ) → weightsFrom n + depth < k → (k ≡ totalAt n → ⊥) → at new k ≡ at old k
 

@@ -1,4 +1,6 @@
 // A load: the depth for it, the weights of the steps, and the last step that counts.
+use limits::RATE_HUNDREDTHS;
+use limits::SPARE_STEPS;
 ghost use mathlib.Core.Path.{_≡_};
 ghost use Prim.Native.Nat.{_/_, _≤_};
 ghost use Rattle.bounds.specs.Last.{lastFrom};
@@ -6,21 +8,21 @@ ghost use Rattle.bounds.specs.Ends.{negligible};
 ghost use Rattle.vectors.specs.Places.{weightAt, totalIn};
 ghost use Rattle.phase.specs.Load.{loadDepth, mostLoad, WeighAsked, Weighed, LightAsked};
 
-// The depth for a load of a millionths.
+// The depth for a load of a hundred-millionths.
 pub fn depth_of(a: u64) -> usize
     requires { ⌜ a ≤ mostLoad ⌝ }
     ensures { λ r. ⌜ r ≡ loadDepth a ⌝ }
 {
-    (2 * ((a + (limits::RATE_HOURS - 1)) / limits::RATE_HOURS) + limits::SPARE_STEPS) as usize
+    (2 * ((a + (RATE_HUNDREDTHS - 1)) / RATE_HUNDREDTHS) + SPARE_STEPS) as usize
 }
 
-// The weights of steps 0 to depth for a load of a millionths, and their total, in their places.
+// The weights of steps 0 to depth for a load of a hundred-millionths, and their total, in their places.
 pub fn weigh(words: &mut [u64], n: usize, a: u64, depth: usize)
     requires { ⌜ WeighAsked (now words) n a depth ⌝ }
     ensures { λ _. ⌜ Weighed n a depth (now (words .entry)) (now (words .exit)) ⌝ }
 {
-    let m = (a / limits::RATE_HOURS) as usize;
-    let total = weights::weigh(words, vectors::WEIGHTS * n, m, depth, a, limits::RATE_HOURS);
+    let m = (a / RATE_HUNDREDTHS) as usize;
+    let total = weights::weigh(words, vectors::WEIGHTS * n, m, depth, a, RATE_HUNDREDTHS);
     let at = vectors::total(n);
     words[at] = total;
 }

@@ -8,7 +8,7 @@ use lib.ListN.{length}
 use lib.Dec.{leb}
 use borrow.Author.Tests.{leb-true, le-ltb}
 use Rattle.csl.specs.Text.{any}
-use Rattle.csl.specs.Limits.{billion, mostNodes, mostRateHours}
+use Rattle.csl.specs.Limits.{billion, mostNodes, mostRateHundredths}
 use Rattle.csl.specs.Formula.{Formula, always, label, negated, both, chance, Path, until, pathOf, Comparison, nodes, phasesPass, pathsPass}
 use Rattle.csl.specs.Chain.{Chain, topRate, load, depth}
 use Rattle.csl.specs.Path.{meaning}
@@ -38,12 +38,12 @@ module _ (j : Job) (p : Passed j) where
       )
 
 -- the depth of a load that is not too high
-depth-low : (c : Chain) (t : ℕ) → topRate c * t ≤ mostRateHours → depth c t ≤ 168
+depth-low : (c : Chain) (t : ℕ) → topRate c * t ≤ mostRateHundredths → depth c t ≤ 168
 unfolding depth load
 depth-low c t h = omega arith
 
-path-within : (c : Chain) (w : Path) → phasesPass (λ t. leb (topRate c * t) mostRateHours) (pathOf w) ≡ true → meaning c (pathOf w) .depth ≤ 168
-path-within c (until t a b) h = depth-low c t (leb-true (topRate c * t) mostRateHours h)
+path-within : (c : Chain) (w : Path) → phasesPass (λ t. leb (topRate c * t) mostRateHundredths) (pathOf w) ≡ true → meaning c (pathOf w) .depth ≤ 168
+path-within c (until t a b) h = depth-low c t (leb-true (topRate c * t) mostRateHundredths h)
 
 depth-within : (c : Chain) (f : Formula) → pathsPass (inLoad (topRate c)) f ≡ true → depthOf c f ≤ 168
 unfolding depthOf pathsPass
@@ -51,7 +51,7 @@ depth-within c always h = omega arith
 depth-within c (label w) h = omega arith
 depth-within c (negated a) h = omega arith
 depth-within c (both a b) h = omega arith
-depth-within c (chance r p w) h = path-within c w (and-eq-true-iff (phasesPass (λ t. leb (topRate c * t) mostRateHours) (pathOf w)) _ .0 h .0)
+depth-within c (chance r p w) h = path-within c w (and-eq-true-iff (phasesPass (λ t. leb (topRate c * t) mostRateHundredths) (pathOf w)) _ .0 h .0)
 
 pub depth-few : (j : Job) → Passed j → depthOf (jobChain j) (jobFormula j) ≤ 168
 depth-few j p = depth-within (jobChain j) (jobFormula j) (p .formula .fitting .loads)

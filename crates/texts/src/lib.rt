@@ -6,6 +6,8 @@ mod parts;
 mod words;
 
 pub use digits::Num;
+pub use digits::ZERO;
+pub use digits::is_digit;
 pub use digits::number;
 pub use fields::Known;
 pub use fields::field;

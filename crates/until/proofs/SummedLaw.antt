@@ -7,7 +7,7 @@ use native.Mathlib.Omega.{arith}
 use lib.Dec.{ltb}
 use lib.ListN.{length}
 use borrow.Author.Tests.{ltb-true, ltb-false}
-use Rattle.csl.specs.Limits.{rateHours}
+use Rattle.csl.specs.Limits.{rateHundredths}
 use Rattle.numbers.specs.Hint.{mul-bound}
 use Rattle.bounds.specs.Weight.{peak, low, Middle, low-most}
 use Rattle.bounds.specs.Last.{lastFrom, last-same}
@@ -23,20 +23,20 @@ use Rattle.until.specs.Reading.{lowPhase, highPhase}
 use Rattle.until.specs.Asked.{BothAsked, Both, SummedAsked, Summed}
 
 module _ {mv l first second : List ℕ} {n q a depth : ℕ} (p : SummedAsked mv l first second n q a depth) where
-  middle : Middle a rateHours (a / rateHours)
+  middle : Middle a rateHundredths (a / rateHundredths)
   middle = record { some = p .weigh .some; unit = omega arith; reached = omega arith; last = omega arith }
 
-  deep : a / rateHours ≤ depth
+  deep : a / rateHundredths ≤ depth
   deep = omega (arith, p .weigh .deep)
 
   limit : depth < mostSteps
   limit = omega (arith, p .weigh .deep, p .weigh .load .most)
 
-  total-small : total a rateHours (a / rateHours) depth < 2 ^ 52
+  total-small : total a rateHundredths (a / rateHundredths) depth < 2 ^ 52
   total-small =
       let y : depth + 2 ≤ 1026 = omega (arith, limit) in
       let z : peak + depth ≤ peak + 1024 = omega (arith, limit) in
-      omega (arith, total-most a rateHours (a / rateHours) depth middle deep, mul-bound y z)
+      omega (arith, total-most a rateHundredths (a / rateHundredths) depth middle deep, mul-bound y z)
 
   module _ {w : List ℕ} (u : Weighed n a depth l w) where
     light : (k : ℕ) → k ≤ depth → weightAt w n k ≤ peak
@@ -53,18 +53,18 @@ module _ {mv l first second : List ℕ} {n q a depth : ℕ} (p : SummedAsked mv 
         }
 
     module _ {last : ℕ} (z : last ≡ lastFrom (weightAt w n) (totalIn w n / negligible) depth 0) where
-      made : last ≡ lastStep a rateHours (a / rateHours) depth
+      made : last ≡ lastStep a rateHundredths (a / rateHundredths) depth
       unfolding lastStep
       made =
           z
           ∙ ap (λ (t : ℕ). lastFrom (weightAt w n) (t / negligible) depth 0) (u .total)
-          ∙ last-same (weightAt w n) (low a rateHours (a / rateHours)) (total a rateHours (a / rateHours) depth / negligible) depth (u .weights) depth 0
+          ∙ last-same (weightAt w n) (low a rateHundredths (a / rateHundredths)) (total a rateHundredths (a / rateHundredths) depth / negligible) depth (u .weights) depth 0
           (omega arith)
 
       within : last ≤ depth
-      within = rw made (last-step-within a rateHours (a / rateHours) depth)
+      within = rw made (last-step-within a rateHundredths (a / rateHundredths) depth)
 
-      through : (k : ℕ) → k ≤ last → weightAt w n k ≡ low a rateHours (a / rateHours) k
+      through : (k : ℕ) → k ≤ last → weightAt w n k ≡ low a rateHundredths (a / rateHundredths) k
       through k h = u .weights k (omega (arith, within))
 
       pub may-both : BothAsked mv w first second n q last
@@ -79,10 +79,10 @@ module _ {mv l first second : List ℕ} {n q a depth : ℕ} (p : SummedAsked mv 
               room = omega (arith, p .weigh .load .room, p .weigh .deep, within);
               weights = λ k h. light k (omega (arith, within));
             };
-            some = omega (arith, u .total, total-peak a rateHours (a / rateHours) depth deep);
+            some = omega (arith, u .total, total-peak a rateHundredths (a / rateHundredths) depth deep);
             divisor = omega (arith, u .total, total-small);
             most = λ v h. rw (sum-gathered w n a last through v, u .total, made)
-                (gathered-most a rateHours (a / rateHours) depth v (λ k c. h k));
+                (gathered-most a rateHundredths (a / rateHundredths) depth v (λ k c. h k));
           }
 
       module _ {x : List ℕ} (f : Both mv first second n q last w x) where

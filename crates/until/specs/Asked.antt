@@ -5,7 +5,7 @@ use mathlib.Core.List.{List}
 use Prim.Native.Nat.{ℕ, zero, suc, _+_, _*_, _/_, _^_, _≤_, _<_}
 use lib.ListN.{length}
 use lib.Dec.{leb}
-use Rattle.csl.specs.Limits.{billion, mostStates, mostRate, rateHours}
+use Rattle.csl.specs.Limits.{billion, mostStates, mostRate, rateHundredths}
 use Rattle.csl.specs.Chain.{sumTo}
 use Rattle.csl.specs.Phase.{Phase}
 use Rattle.csl.specs.Report as report
@@ -120,7 +120,7 @@ pub record Both (mv first second : List ℕ) (n q last : ℕ) (old new : List �
       (upperFrom (phaseSum mv old n q last (highPhase first second) s) (totalIn old n) (wholeOf old n last 0))
   pub after : (k : ℕ) → exitsFrom n ≤ k → (k ≡ numberAt n → ⊥) → at new k ≡ at old k
 
--- a load above 0, of a millionths, is to be summed over
+-- a load above 0, of a hundred-millionths, is to be summed over
 pub record SummedAsked (mv l first second : List ℕ) (n q a depth : ℕ) : Type 0 where
   pub prepared : Prepared mv l n q
   pub some : 0 < q
@@ -133,12 +133,12 @@ abbrev pub Summed : (mv first second : List ℕ) (n q a depth : ℕ) → (old ne
 Summed mv first second n q a depth old new =
     EndsStored
     (λ s. pointed (verdicts first s) (verdicts second s)
-    (lowerEnd a rateHours (a / rateHours) depth (λ k. valueOf mv (length mv) q (lowPhase first second) k s)))
+    (lowerEnd a rateHundredths (a / rateHundredths) depth (λ k. valueOf mv (length mv) q (lowPhase first second) k s)))
     (λ s. pointed (verdicts first s) (verdicts second s)
-    (upperEnd a rateHours (a / rateHours) depth 0 (λ k. valueOf mv (length mv) q (highPhase first second) k s)))
+    (upperEnd a rateHundredths (a / rateHundredths) depth 0 (λ k. valueOf mv (length mv) q (highPhase first second) k s)))
     n old new
 
--- an until over t hours is to be worked out in prepared words, from two rows of verdict bytes
+-- an until over t hundredths of an hour is to be worked out in prepared words, from two rows of verdict bytes
 pub record UntilAsked (mv l first second : List ℕ) (n q t : ℕ) : Type 0 where
   pub prepared : Prepared mv l n q
   pub load : Loaded n (q * t)
@@ -148,11 +148,11 @@ pub record UntilAsked (mv l first second : List ℕ) (n q t : ℕ) : Type 0 wher
 -- the two ends at a state
 abbrev pub lowerUntil : (mv first second : List ℕ) (q t : ℕ) → ℕ → ℕ
 lowerUntil mv first second q t s =
-    untilLowerOf (q * t) rateHours (loadDepth (q * t)) (verdicts first s) (verdicts second s) (λ k. valueOf mv (length mv) q (lowPhase first second) k s)
+    untilLowerOf (q * t) rateHundredths (loadDepth (q * t)) (verdicts first s) (verdicts second s) (λ k. valueOf mv (length mv) q (lowPhase first second) k s)
 
 abbrev pub upperUntil : (mv first second : List ℕ) (q t : ℕ) → ℕ → ℕ
 upperUntil mv first second q t s =
-    untilUpperOf (q * t) rateHours (loadDepth (q * t)) (verdicts first s) (verdicts second s) (λ k. valueOf mv (length mv) q (highPhase first second) k s)
+    untilUpperOf (q * t) rateHundredths (loadDepth (q * t)) (verdicts first s) (verdicts second s) (λ k. valueOf mv (length mv) q (highPhase first second) k s)
 
 -- they stand in their places, and no other word is changed
 pub record Until (mv first second : List ℕ) (n q t : ℕ) (old new : List ℕ) (depth : ℕ) : Type 0 where

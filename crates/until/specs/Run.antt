@@ -5,7 +5,7 @@ use mathlib.Core.List.{List}
 use Prim.Native.Nat.{ℕ, _+_, _*_, _-_, _/_, _≤_, _<_}
 use native.Mathlib.Omega.{arith}
 use lib.ListN.{length}
-use Rattle.csl.specs.Limits.{billion, rateHours}
+use Rattle.csl.specs.Limits.{billion, rateHundredths}
 use Rattle.csl.specs.Chain.{Chain, sumTo}
 use Rattle.csl.specs.Phase.{Phase}
 use Rattle.csl.specs.Laws.Steps.{Starts}
@@ -49,27 +49,27 @@ Ran mv n q last old new = StandsAt n last (runAt mv old n q last) (λ s. sumOf m
 
 -- the words of a run over a phase: its weights, which states it holds, and a start that is at most e units too low
 pub record Begins (ph : Phase) (a e n q : ℕ) (l : List ℕ) : Type 0 where
-  pub weights : (k : ℕ) → k ≤ loadDepth a → weightAt l n k ≡ low a rateHours (a / rateHours) k
+  pub weights : (k : ℕ) → k ≤ loadDepth a → weightAt l n k ≡ low a rateHundredths (a / rateHundredths) k
   pub held : (s : ℕ) → s < n → heldAt l n q s ≡ heldOf ph s
   pub start : StartsHeld n ph (valueAt l n)
   pub below : (s : ℕ) → s < n → valueAt l n s * ph .whole ≤ one * ph .start s
   pub near : (s : ℕ) → s < n → one * ph .start s ≤ (valueAt l n s + e) * ph .whole
 
 module _ {c : Chain} {mv l l' : List ℕ} {n a e : ℕ} {ph : Phase} (p : Shows c mv (length mv) n) (i : Begins ph a e n (topOf mv (length mv) n) l)
-    (r : Ran mv n (topOf mv (length mv) n) (lastStep a rateHours (a / rateHours) (loadDepth a)) l l') where
+    (r : Ran mv n (topOf mv (length mv) n) (lastStep a rateHundredths (a / rateHundredths) (loadDepth a)) l l') where
   last : ℕ
-  last = lastStep a rateHours (a / rateHours) (loadDepth a)
+  last = lastStep a rateHundredths (a / rateHundredths) (loadDepth a)
 
-  weights : (k : ℕ) → k ≤ last → weightAt l n k ≡ low a rateHours (a / rateHours) k
+  weights : (k : ℕ) → k ≤ last → weightAt l n k ≡ low a rateHundredths (a / rateHundredths) k
   unfolding last
-  weights k h = i .weights k (omega (arith, last-step-within a rateHours (a / rateHours) (loadDepth a)))
+  weights k h = i .weights k (omega (arith, last-step-within a rateHundredths (a / rateHundredths) (loadDepth a)))
 
   pub run-ends : 0 < a → a ≤ mostLoad → 0 < topOf mv (length mv) n → 0 < ph .whole → Starts c ph → (s : ℕ) → s < n
-      → PhaseEnds c ph a rateHours e s (sumAt l' n s * scale / total a rateHours (a / rateHours) (loadDepth a))
-      (billion - (wholeOf l n (lastStep a rateHours (a / rateHours) (loadDepth a)) e - sumAt l' n s) * scale
-      / total a rateHours (a / rateHours) (loadDepth a))
+      → PhaseEnds c ph a rateHundredths e s (sumAt l' n s * scale / total a rateHundredths (a / rateHundredths) (loadDepth a))
+      (billion - (wholeOf l n (lastStep a rateHundredths (a / rateHundredths) (loadDepth a)) e - sumAt l' n s) * scale
+      / total a rateHundredths (a / rateHundredths) (loadDepth a))
   unfolding lowerEnd leftEnd last
   run-ends load most moving whole starts s h =
       rw (r .sums s h, sum-gathered l n a last weights (λ k. runAt mv l n (topOf mv (length mv) n) k s), whole-gatherable l n a last weights e)
-      (phase-ends a rateHours load (omega arith) c ph (omega (arith, top-shown p)) whole starts (runs p (i .held) (i .start) (i .below) (i .near)) s
+      (phase-ends a rateHundredths load (omega arith) c ph (omega (arith, top-shown p)) whole starts (runs p (i .held) (i .start) (i .below) (i .near)) s
       (omega (arith, p .states)) (omega arith))

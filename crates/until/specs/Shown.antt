@@ -5,7 +5,7 @@ use mathlib.Core.Bool.{true, false}
 use mathlib.Core.List.{List}
 use Prim.Native.Nat.{ℕ, _+_, _*_, _<_}
 use lib.ListN.{length}
-use Rattle.csl.specs.Limits.{rateHours}
+use Rattle.csl.specs.Limits.{rateHundredths}
 use Rattle.csl.specs.Chain.{Chain, topRate, load, depth}
 use Rattle.bounds.specs.StepValues.{Rounds, untilLowerOf, untilUpperOf}
 use Rattle.rate_matrix.specs.Words.{at, topOf}
@@ -38,10 +38,10 @@ module _ {c : Chain} {mv first second l₀ l : List ℕ} {n q t d : ℕ} (p : Sh
   pub depth-shown : d ≡ depth c t
   depth-shown = u .deep ∙ load-shown
 
-  pub lower-shown : (s : ℕ) → s < n → at l s ≡ untilLowerOf (topRate c * t) rateHours (depth c t) (verdicts first s) (verdicts second s)
+  pub lower-shown : (s : ℕ) → s < n → at l s ≡ untilLowerOf (topRate c * t) rateHundredths (depth c t) (verdicts first s) (verdicts second s)
       (λ k. valueOf mv (length mv) q (lowPhase first second) k s)
   lower-shown s h = u .ends .lowers s h ∙ rw (load-shown, ap (λ (x : ℕ). x * t) q-shown) refl
 
-  pub upper-shown : (s : ℕ) → s < n → at l (n + s) ≡ untilUpperOf (topRate c * t) rateHours (depth c t) (verdicts first s) (verdicts second s)
+  pub upper-shown : (s : ℕ) → s < n → at l (n + s) ≡ untilUpperOf (topRate c * t) rateHundredths (depth c t) (verdicts first s) (verdicts second s)
       (λ k. valueOf mv (length mv) q (highPhase first second) k s)
   upper-shown s h = u .ends .uppers s h ∙ rw (load-shown, ap (λ (x : ℕ). x * t) q-shown) refl

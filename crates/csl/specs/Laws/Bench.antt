@@ -5,14 +5,14 @@ use Prim.Native.Nat.{ℕ, _*_, _<_}
 use mathlib.Core.List.{_++_}
 use native.Mathlib.Omega.{arith}
 use Rattle.csl.specs.Text.{Text, bytes}
-use Rattle.csl.specs.Limits.{billion}
+use Rattle.csl.specs.Limits.{billion, hour}
 use Rattle.csl.specs.Formula.{always, label, negated, both, chance, Path, until, Comparison, AtLeast}
 use Rattle.csl.specs.Chain.{Chain, topRate}
 use Rattle.csl.specs.Verdicts.{Verdict, No, Yes, marked, negation, conjunction, judged, asNo, asYes, Sides}
 use Rattle.csl.specs.Backing.{AtEach, ChanceKeeps, operandsOf}
 use Rattle.csl.specs.Report.{Reported, lowerOf, upperOf, rowText, rowsText, reportText}
 use Rattle.csl.specs.Refusal.{jobChain}
-use Rattle.csl.specs.Bench.{small, still, up, negatedTimes, Prints, BenchValues}
+use Rattle.csl.specs.Bench.{small, still, up, negatedTimes, Prints, BenchValues, DecimalHours}
 use Rattle.csl.specs.Laws.Computing.{computing}
 use Rattle.csl.specs.Laws.PointEnds.{still-lower, still-upper}
 use Rattle.csl.specs.Laws.Enclosure.{ordered-ends}
@@ -84,7 +84,7 @@ no-moves-prints : Prints (still "P >= 5 U 8760 up dead\n")
     "state,lower,upper,depth,verdict\n0,0,0,40,no\n1,1000000000,1000000000,40,yes\n"
 unfolding computing
 no-moves-prints lower upper v k =
-    let row = still-row (jobChain (still "P >= 5 U 8760 up dead\n")) AtLeast 5 8760 (bytes "up") (bytes "dead") lower upper v refl k in
+    let row = still-row (jobChain (still "P >= 5 U 8760 up dead\n")) AtLeast 5 (8760 * hour) (bytes "up") (bytes "dead") lower upper v refl k in
     two-rows lower upper v 40 0 0 No billion billion Yes (row 0 (omega arith) false refl) (row 1 (omega arith) true refl)
 
 tt-prints : Prints (small "tt\n")
@@ -131,4 +131,28 @@ bench-values =
       sixteen = refl;
       at-least-0-accepted = refl;
       at-least-0 = at-least-zero;
+    }
+
+pub decimal-hours : DecimalHours
+unfolding computing
+decimal-hours =
+    record {
+      quarter = refl;
+      half = refl;
+      minutes = refl;
+      trailing-zero = refl;
+      only-zero = refl;
+      no-decimal = refl;
+      no-number = refl;
+      leading-zero = refl;
+      three-decimals = refl;
+      two-points = refl;
+      threshold = refl;
+      eleven-digits = refl;
+      ten-digits = refl;
+      over-the-top = refl;
+      mostHundredths-is = refl;
+      over-load = refl;
+      mostRateHundredths-is = refl;
+      rateHundredths-is = refl;
     }

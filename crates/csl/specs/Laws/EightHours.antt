@@ -15,7 +15,7 @@ use Rattle.csl.specs.Until.{untilPhase, untilQuotient}
 use Rattle.csl.specs.Ends.{EndsAt}
 use Rattle.csl.specs.Report.{Reported}
 use Rattle.csl.specs.Refusal.{jobChain}
-use Rattle.csl.specs.Bench.{small, up, dead, EightHours}
+use Rattle.csl.specs.Bench.{small, up, dead, eight, EightHours}
 use Rattle.csl.specs.Laws.Computing.{computing}
 use Rattle.csl.specs.Laws.Fraction.{below-trans}
 use Rattle.csl.specs.Laws.Steps.{step-le, divisor-some}
@@ -36,7 +36,7 @@ isDead = sheet .mark (bytes "dead")
 
 -- the quotient at D
 abbrev pub atDepth : Fraction
-atDepth = untilQuotient sheet 8 isUp isDead 0 42
+atDepth = untilQuotient sheet eight isUp isDead 0 42
 
 pub under-end : atDepth .top * 1000000000 < 3992011 * atDepth .bottom
 unfolding computing
@@ -48,7 +48,7 @@ over-end = lit< tt
 
 -- what is summed to D, over all weights to D and the last once more: at most every later quotient
 abbrev pub summed : (ℕ → Fraction) → Fraction
-summed v = over (sumUp (λ k. times (weight (load sheet 8) k) (v k)) 42) (plus (sumUp (weight (load sheet 8)) 42) (weight (load sheet 8) 42))
+summed v = over (sumUp (λ k. times (weight (load sheet eight) k) (v k)) 42) (plus (sumUp (weight (load sheet eight)) 42) (weight (load sheet eight) 42))
 
 -- the step values of state 0; what is summed of them, and of what they leave of 1
 abbrev pub values : ℕ → Fraction
@@ -68,24 +68,24 @@ missed-least : 996007989 * missed .bottom < missed .top * 1000000000
 unfolding computing
 missed-least = lit< tt
 
-pub depth-is : depth sheet 8 ≡ 42
+pub depth-is : depth sheet eight ≡ 42
 unfolding computing
 depth-is = refl
 
 -- so from D on: the quotients are at least 3,992,010 billionths, and leave at least 996,007,989
-load-is : IsFraction (load sheet 8)
+load-is : IsFraction (load sheet eight)
 unfolding load
 load-is = omega arith
 
-light : Light (load sheet 8) 42
-light = light-from sheet 8 42 (omega (arith, depth-is))
+light : Light (load sheet eight) 42
+light = light-from sheet eight 42 (omega (arith, depth-is))
 
 from-depth : (v : ℕ → Fraction) (a : ℕ) → ((k : ℕ) → IsFraction (v k)) → 0 < summed v .bottom → a * summed v .bottom < summed v .top * 1000000000
-    → (n : ℕ) → 42 ≤ n → Below (billionths a) (quotient (load sheet 8) v n)
+    → (n : ℕ) → 42 ≤ n → Below (billionths a) (quotient (load sheet eight) v n)
 from-depth v a are is h n l =
     let e : 42 + (n - 42) ≡ n = omega arith in
-    let k : Below (billionths a) (quotient (load sheet 8) v (42 + (n - 42)))
-    = below-trans (billionths a) (summed v) _ is (le-of-lt h) (later (load sheet 8) load-is 42 light v are (n - 42)) in
+    let k : Below (billionths a) (quotient (load sheet eight) v (42 + (n - 42)))
+    = below-trans (billionths a) (summed v) _ is (le-of-lt h) (later (load sheet eight) load-is 42 light v are (n - 42)) in
     rw e at k
 
 values-are : (k : ℕ) → IsFraction (values k)
@@ -103,12 +103,12 @@ pub two-states : sheet .states ≡ 2
 unfolding computing
 two-states = refl
 
-pub at-least : (n : ℕ) → 42 ≤ n → Below (billionths 3992010) (untilQuotient sheet 8 isUp isDead 0 n)
+pub at-least : (n : ℕ) → 42 ≤ n → Below (billionths 3992010) (untilQuotient sheet eight isUp isDead 0 n)
 at-least = from-depth values 3992010 values-are kept-is kept-least
 
-pub at-most : (n : ℕ) → 42 ≤ n → Below (untilQuotient sheet 8 isUp isDead 0 n) (billionths 3992011)
+pub at-most : (n : ℕ) → 42 ≤ n → Below (untilQuotient sheet eight isUp isDead 0 n) (billionths 3992011)
 at-most n l =
-    left-above (load sheet 8) values
+    left-above (load sheet eight) values
     (λ k. step-le sheet (untilPhase isUp isDead) (until-starts sheet isUp isDead) k 0 (omega (arith, two-states))) n 996007989 3992011 (omega arith)
     (from-depth (leftOf values) 996007989 values-are missed-is missed-least n l)
 
@@ -123,13 +123,13 @@ yes-below : (p lower upper : ℕ) → upper ≤ p → lower ≤ upper → judged
 unfolding Sides
 yes-below p lower upper h k = one-verdict p lower upper k AtMost _ Yes (judged-sides p lower upper k AtMost) (λ x a b. omega arith)
 
-pub eight-hours : (lower upper : ℕ → ℕ) (v : ℕ → Verdict) → Reported sheet (chance AtMost 10000000 (until 8 up dead)) lower upper v
+pub eight-hours : (lower upper : ℕ → ℕ) (v : ℕ → Verdict) → Reported sheet (chance AtMost 10000000 (until eight up dead)) lower upper v
     → EightHours lower upper v
 eight-hours lower upper v k =
     let here : 0 < sheet .states = omega (arith, two-states) in
-    let e : EndsAt sheet (untilOf 8 (k .first) (k .second)) 0 (lower 0) (upper 0) = k .keeps .ends 0 here in
-    let same-low = low-marks sheet 8 _ _ isUp isDead (k .first-backed) (k .second-backed) 0 42 here in
-    let same-high = high-marks sheet 8 _ _ isUp isDead (k .first-backed) (k .second-backed) 0 42 here in
+    let e : EndsAt sheet (untilOf eight (k .first) (k .second)) 0 (lower 0) (upper 0) = k .keeps .ends 0 here in
+    let same-low = low-marks sheet eight _ _ isUp isDead (k .first-backed) (k .second-backed) 0 42 here in
+    let same-high = high-marks sheet eight _ _ isUp isDead (k .first-backed) (k .second-backed) 0 42 here in
     let low : lower 0 < 3992011
     = end-under atDepth (lower 0) 3992011 (rw (same-low .0, same-low .1) at (e .lower-side 42 (omega (arith, depth-is)))) under-end in
     let high : 3992010 < upper 0

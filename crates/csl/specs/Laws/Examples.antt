@@ -14,7 +14,7 @@ use Rattle.csl.specs.Ends.{EndsAt}
 use Rattle.csl.specs.Backing.{AtEach, NothingUndecided, NothingUndecidedIn}
 use Rattle.csl.specs.Truth.{Obeys}
 use Rattle.csl.specs.Report.{Reported, backingOf}
-use Rattle.csl.specs.Bench.{up, dead}
+use Rattle.csl.specs.Bench.{up, dead, eight}
 use Rattle.csl.specs.Laws.Computing.{computing}
 use Rattle.csl.specs.Laws.Verdicts.{yes-or-no}
 use Rattle.csl.specs.Laws.Fraction.{wider, more-room}
@@ -31,7 +31,7 @@ at-two P h k (suc zero) l = k
 at-two P h k (suc (suc s)) l = absurd (omega (arith, two-states))
 
 -- the load is above 0
-moving : topRate sheet * 8 ≡ 0 → ⊥
+moving : topRate sheet * eight ≡ 0 → ⊥
 unfolding computing
 moving e = omega arith
 
@@ -56,17 +56,17 @@ module _ (v w : ℕ → Verdict) (h : AtEach sheet (λ s. v s ≡ marked (isUp s
   here : 0 < sheet .states
   here = omega (arith, two-states)
 
-  low-least : (n : ℕ) → depth sheet 8 ≤ n → Below (billionths 3992010) (lowQuotient sheet 8 v w 0 n)
-  low-least n d = below-same _ _ _ (low-marks sheet 8 v w isUp isDead h k 0 n here) (at-least n (omega (arith, depth-is)))
+  low-least : (n : ℕ) → depth sheet eight ≤ n → Below (billionths 3992010) (lowQuotient sheet eight v w 0 n)
+  low-least n d = below-same _ _ _ (low-marks sheet eight v w isUp isDead h k 0 n here) (at-least n (omega (arith, depth-is)))
 
-  low-most : (n : ℕ) → depth sheet 8 ≤ n → Below (lowQuotient sheet 8 v w 0 n) (billionths 3992011)
-  low-most n d = same-below _ _ _ (low-marks sheet 8 v w isUp isDead h k 0 n here) (at-most n (omega (arith, depth-is)))
+  low-most : (n : ℕ) → depth sheet eight ≤ n → Below (lowQuotient sheet eight v w 0 n) (billionths 3992011)
+  low-most n d = same-below _ _ _ (low-marks sheet eight v w isUp isDead h k 0 n here) (at-most n (omega (arith, depth-is)))
 
-  high-least : (n : ℕ) → depth sheet 8 ≤ n → Below (billionths 3992010) (highQuotient sheet 8 v w 0 n)
-  high-least n d = below-same _ _ _ (high-marks sheet 8 v w isUp isDead h k 0 n here) (at-least n (omega (arith, depth-is)))
+  high-least : (n : ℕ) → depth sheet eight ≤ n → Below (billionths 3992010) (highQuotient sheet eight v w 0 n)
+  high-least n d = below-same _ _ _ (high-marks sheet eight v w isUp isDead h k 0 n here) (at-least n (omega (arith, depth-is)))
 
-  high-most : (n : ℕ) → depth sheet 8 ≤ n → Below (highQuotient sheet 8 v w 0 n) (billionths 3992011)
-  high-most n d = same-below _ _ _ (high-marks sheet 8 v w isUp isDead h k 0 n here) (at-most n (omega (arith, depth-is)))
+  high-most : (n : ℕ) → depth sheet eight ≤ n → Below (highQuotient sheet eight v w 0 n) (billionths 3992011)
+  high-most n d = same-below _ _ _ (high-marks sheet eight v w isUp isDead h k 0 n here) (at-most n (omega (arith, depth-is)))
 
   first-yes : v 0 ≡ Yes
   first-yes = h 0 here ∙ up-0
@@ -74,13 +74,13 @@ module _ (v w : ℕ → Verdict) (h : AtEach sheet (λ s. v s ≡ marked (isUp s
   second-no : w 0 ≡ No
   second-no = k 0 here ∙ dead-0
 
-  pub eight-hours-ends : EndsAt sheet (untilOf 8 v w) 0 3992010 3992011
+  pub eight-hours-ends : EndsAt sheet (untilOf eight v w) 0 3992010 3992011
   eight-hours-ends =
       record {
         lower-side = low-least;
-        lower-near = λ n d. wider _ 3992011 (3992010 + untilSlack sheet 8) (omega (arith, depth-is)) (low-most n d);
+        lower-near = λ n d. wider _ 3992011 (3992010 + untilSlack sheet eight) (omega (arith, depth-is)) (low-most n d);
         upper-side = high-most;
-        upper-near = λ n d. more-room _ 3992010 3992011 (untilSlack sheet 8) (omega (arith, depth-is)) (high-least n d);
+        upper-near = λ n d. more-room _ 3992010 3992011 (untilSlack sheet eight) (omega (arith, depth-is)) (high-least n d);
         width = λ i. omega (arith, depth-is);
         lower-range = omega arith;
         upper-range = omega arith;
@@ -116,13 +116,13 @@ unfolding computing
 dead-yes = refl
 
 ends-8 : (v w : ℕ → Verdict) → AtEach sheet (λ s. v s ≡ marked (isUp s)) → AtEach sheet (λ s. w s ≡ marked (isDead s))
-    → AtEach sheet λ s. EndsAt sheet (untilOf 8 v w) s (lower8 s) (upper8 s)
+    → AtEach sheet λ s. EndsAt sheet (untilOf eight v w) s (lower8 s) (upper8 s)
 ends-8 v w h k =
     at-two _ (rw dead-no (eight-hours-ends v w h k))
-    (rw dead-yes (ends-certain sheet 8 v w 1 (omega (arith, two-states)) (k 1 (omega (arith, two-states)) ∙ dead-1)))
+    (rw dead-yes (ends-certain sheet eight v w 1 (omega (arith, two-states)) (k 1 (omega (arith, two-states)) ∙ dead-1)))
 
 -- a backing of `P r p U 8 up dead`, for any comparison and threshold
-unfoldable inner : (r : Comparison) (p : ℕ) → Reported sheet (chance r p (until 8 up dead)) lower8 upper8 (λ s. judged r p (lower8 s) (upper8 s))
+unfoldable inner : (r : Comparison) (p : ℕ) → Reported sheet (chance r p (until eight up dead)) lower8 upper8 (λ s. judged r p (lower8 s) (upper8 s))
 inner r p =
     record {
       first = λ s. marked (isUp s);
@@ -140,7 +140,7 @@ inner-is : AtEach sheet λ s. judged More 10000000 (lower8 s) (upper8 s) ≡ mar
 inner-is = at-two _ (rw dead-no) (rw dead-yes)
 
 abbrev nestedFormula : Formula
-nestedFormula = chance AtLeast 1 (until 8 up (chance More 10000000 (until 8 up dead)))
+nestedFormula = chance AtLeast 1 (until eight up (chance More 10000000 (until eight up dead)))
 
 unfoldable nestedBacking : Reported sheet nestedFormula lower8 upper8 (λ s. Yes)
 nestedBacking =
@@ -155,7 +155,7 @@ nestedBacking =
       };
     }
 
-pub nested : Reported sheet (chance AtLeast 1 (until 8 up (chance More 10000000 (until 8 up dead)))) lower8 upper8 (λ s. Yes)
+pub nested : Reported sheet (chance AtLeast 1 (until eight up (chance More 10000000 (until eight up dead)))) lower8 upper8 (λ s. Yes)
 nested = nestedBacking
 
 -- nothing is undecided in it, so its verdicts are a truth table
@@ -173,7 +173,7 @@ nested-decided = (
   ),
 )
 
-pub nested-obeys : Obeys sheet (chance AtLeast 1 (until 8 up (chance More 10000000 (until 8 up dead)))) (λ s. true)
+pub nested-obeys : Obeys sheet (chance AtLeast 1 (until eight up (chance More 10000000 (until eight up dead)))) (λ s. true)
 nested-obeys =
     verdicts-obey sheet nestedFormula (λ s. Yes) (backingOf sheet nestedFormula lower8 upper8 (λ s. Yes) nestedBacking) nested-decided
 
@@ -191,14 +191,14 @@ apart : {x : Verdict} {A : Type 0} → x ≡ Undecided → x ≡ Yes → A
 apart {x} h k = let z : _≡_ {A = ℕ} 0 1 = cc in absurd (omega arith)
 
 module _ (v : ℕ → Verdict) (h : AtEach sheet (λ s. v s ≡ marked (isUp s))) where
-  low-0 : (n : ℕ) → lowQuotient sheet 8 v open8 0 n .top ≡ 0
+  low-0 : (n : ℕ) → lowQuotient sheet eight v open8 0 n .top ≡ 0
   low-0 n =
-      until-nowhere sheet 8 (least v) (least open8) (at-two _ (rw open-0) (rw open-1)) 0 n (omega (arith, two-states))
+      until-nowhere sheet eight (least v) (least open8) (at-two _ (rw open-0) (rw open-1)) 0 n (omega (arith, two-states))
 
-  high-1 : (n : ℕ) → highQuotient sheet 8 v open8 0 n .top ≡ highQuotient sheet 8 v open8 0 n .bottom
-  high-1 n = until-one sheet 8 (most v) (most open8) 0 (omega (arith, two-states)) (rw open-0) n
+  high-1 : (n : ℕ) → highQuotient sheet eight v open8 0 n .top ≡ highQuotient sheet eight v open8 0 n .bottom
+  high-1 n = until-one sheet eight (most v) (most open8) 0 (omega (arith, two-states)) (rw open-0) n
 
-  open-ends : EndsAt sheet (untilOf 8 v open8) 0 0 billion
+  open-ends : EndsAt sheet (untilOf eight v open8) 0 0 billion
   open-ends =
       record {
         lower-side = λ n d. omega arith;
@@ -222,7 +222,7 @@ openUpper s = cond (isUp s) billion 0
 abbrev pub openVerdict : ℕ → Verdict
 openVerdict s = cond (isUp s) Undecided No
 
-pub undecided : Reported sheet (chance AtLeast 5 (until 8 up (chance AtMost 3992010 (until 8 up dead)))) (λ s. 0) openUpper openVerdict
+pub undecided : Reported sheet (chance AtLeast 5 (until eight up (chance AtMost 3992010 (until eight up dead)))) (λ s. 0) openUpper openVerdict
 undecided =
     record {
       first = λ s. marked (isUp s);
@@ -231,7 +231,7 @@ undecided =
       second-backed = record { lower = lower8; upper = upper8; keeps = inner AtMost 3992010 };
       keeps = record {
         ends = at-two _ (rw up-yes (open-ends (λ s. marked (isUp s)) (λ s l. refl)))
-            (rw up-no (ends-impossible sheet 8 (λ s. marked (isUp s)) open8 1 (omega (arith, two-states)) up-1 open-1));
+            (rw up-no (ends-impossible sheet eight (λ s. marked (isUp s)) open8 1 (omega (arith, two-states)) up-1 open-1));
         verdict = at-two _ (rw up-yes) (rw up-no);
       };
     }

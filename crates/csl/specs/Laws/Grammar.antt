@@ -11,11 +11,10 @@ use mathlib.Core.List.{append-assoc}
 use lib.Dec.{eqb}
 use borrow.Author.Tests.{eqb-true}
 use Rattle.csl.specs.Text.{Text, bytes, same}
-use Rattle.csl.specs.Limits.{formulaDigits}
-use Rattle.csl.specs.Number.{isNumber, valueOf}
 use Rattle.csl.specs.Labels.{isWord}
+use Rattle.csl.specs.Hours.{hundredthsOf}
 use Rattle.csl.specs.Formula.{Formula, always, label, negated, both, chance, until, Comparison}
-use Rattle.csl.specs.Grammar.{Found, nothing, found, Reader, andThen, comparisonOf, onComparison, onNumber, onWord, pair, path, Head, truth, name, bang, ampersand, chances, other, headOf, state, readState, whole, Spells, spells-truth, spells-name, spells-not, spells-both, spells-until}
+use Rattle.csl.specs.Grammar.{Found, nothing, found, Reader, andThen, comparisonOf, numberOf, onToken, onWord, pair, path, Head, truth, name, bang, ampersand, chances, other, headOf, state, readState, whole, Spells, spells-truth, spells-name, spells-not, spells-both, spells-until}
 use Rattle.csl.specs.Laws.Computing.{computing}
 
 -- what is found has been found before
@@ -33,25 +32,29 @@ unfolding andThen
 then-found nothing next f rest h = nothing-found f rest h
 then-found (found a more) next f rest h = record { first = a; more = more; before = refl; after = h }
 
--- what stood before it, token by token
-pub record NumberThen (ts : List Text) (next : ℕ → List Text → Found) (f : Formula) (rest : List Text) : Type 0 where
+-- what stood before it: a token that spells something, or a word
+pub record TokenThen {A : Type 0} (spelled : Text → Option A) (ts : List Text) (next : A → List Text → Found) (f : Formula) (rest : List Text) : Type 0 where
   pub token : Text
+  pub value : A
   pub more : List Text
   pub tokens : ts ≡ token ∷ more
-  pub is : isNumber formulaDigits token ≡ true
-  pub after : next (valueOf token) more ≡ found f rest
+  pub is : spelled token ≡ some value
+  pub after : next value more ≡ found f rest
 
-number-by : (x : Bool) (y : Found) (f : Formula) (rest : List Text) → (elim x [ true ↦ y | false ↦ nothing ]) ≡ found f rest → (x ≡ true) × (y ≡ found f rest)
-number-by true y f rest h = (refl, h)
-number-by false y f rest h = nothing-found f rest h
+token-found : {A : Type 0} (spelled : Text → Option A) (ts : List Text) (next : A → List Text → Found) (f : Formula) (rest : List Text)
+    → onToken spelled ts next ≡ found f rest → TokenThen spelled ts next f rest
+unfolding onToken
+token-found spelled [] next f rest h = nothing-found f rest h
+token-found {A} spelled (w ∷ ts) next f rest h = go (spelled w) refl h
+  where
+    go : (o : Option A) → spelled w ≡ o → (elim o [ none ↦ nothing | some a ↦ next a ts ]) ≡ found f rest
+        → TokenThen spelled (w ∷ ts) next f rest
+    go none e k = nothing-found f rest k
+    go (some a) e k = record { token = w; value = a; more = ts; tokens = refl; is = e; after = k }
 
-number-found : (ts : List Text) (next : ℕ → List Text → Found) (f : Formula) (rest : List Text) → onNumber ts next ≡ found f rest
-    → NumberThen ts next f rest
-unfolding onNumber
-number-found [] next f rest h = nothing-found f rest h
-number-found (w ∷ ts) next f rest h =
-    let p = number-by (isNumber formulaDigits w) (next (valueOf w) ts) f rest h in
-    record { token = w; more = ts; tokens = refl; is = p .0; after = p .1 }
+word-by : (x : Bool) (y : Found) (f : Formula) (rest : List Text) → (elim x [ true ↦ y | false ↦ nothing ]) ≡ found f rest → (x ≡ true) × (y ≡ found f rest)
+word-by true y f rest h = (refl, h)
+word-by false y f rest h = nothing-found f rest h
 
 -- bytes that are the same are equal
 same-cons : (a b : ℕ) (s t : Text) → a ≡ b → s ≡ t → _≡_ {A = Text} (a ∷ s) (b ∷ t)
@@ -66,25 +69,6 @@ same-true (a ∷ s) (b ∷ t) h =
     let p : (eqb a b ≡ true) × (same s t ≡ true) = and-eq-true-iff (eqb a b) (same s t) .0 h in
     same-cons a b s t (eqb-true a b (p .0)) (same-true s t (p .1))
 
-pub record SignThen (ts : List Text) (next : Comparison → List Text → Found) (f : Formula) (rest : List Text) : Type 0 where
-  pub token : Text
-  pub sign : Comparison
-  pub more : List Text
-  pub tokens : ts ≡ token ∷ more
-  pub is : comparisonOf token ≡ some sign
-  pub after : next sign more ≡ found f rest
-
-sign-found : (ts : List Text) (next : Comparison → List Text → Found) (f : Formula) (rest : List Text) → onComparison ts next ≡ found f rest
-    → SignThen ts next f rest
-unfolding onComparison
-sign-found [] next f rest h = nothing-found f rest h
-sign-found (w ∷ ts) next f rest h = go (comparisonOf w) refl h
-  where
-    go : (o : Option Comparison) → comparisonOf w ≡ o → (elim o [ none ↦ nothing | some r ↦ next r ts ]) ≡ found f rest
-        → SignThen (w ∷ ts) next f rest
-    go none e k = nothing-found f rest k
-    go (some r) e k = record { token = w; sign = r; more = ts; tokens = refl; is = e; after = k }
-
 pub record WordThen (x : Text) (ts : List Text) (next : List Text → Found) (f : Formula) (rest : List Text) : Type 0 where
   pub more : List Text
   pub tokens : ts ≡ x ∷ more
@@ -95,7 +79,7 @@ word-found : (x : Text) (ts : List Text) (next : List Text → Found) (f : Formu
 unfolding onWord
 word-found x [] next f rest h = nothing-found f rest h
 word-found x (w ∷ ts) next f rest h =
-    let p = number-by (same w x) (next ts) f rest h in
+    let p = word-by (same w x) (next ts) f rest h in
     record { more = ts; tokens = ap (λ (y : Text). y ∷ ts) (same-true w x (p .0)); after = p .1 }
 
 -- the token that a head stands for
@@ -167,18 +151,18 @@ pair-sound read sound make ts f rest h =
     }
 
 -- what stands after the tokens of `P` and `U`
-until-sound : (read : Reader) → Sound read → (sign threshold : Text) (r : Comparison) (ts : List Text) (f : Formula) (rest : List Text)
-    → comparisonOf sign ≡ some r → isNumber formulaDigits threshold ≡ true → path read r (valueOf threshold) ts ≡ found f rest
+until-sound : (read : Reader) → Sound read → (sign threshold : Text) (r : Comparison) (v : ℕ) (ts : List Text) (f : Formula) (rest : List Text)
+    → comparisonOf sign ≡ some r → numberOf threshold ≡ some v → path read r v ts ≡ found f rest
     → Spelled f (bytes "P" ∷ sign ∷ threshold ∷ ts) rest
 unfolding path
-until-sound read sound sign threshold r ts f rest e i h =
+until-sound read sound sign threshold r v ts f rest e i h =
     let u = word-found (bytes "U") ts _ f rest h in
-    let n = number-found (u .more) _ f rest (u .after) in
-    let p = pair-sound read sound (λ a b. chance r (valueOf threshold) (until (valueOf (n .token)) a b)) (n .more) f rest (n .after) in
+    let n = token-found hundredthsOf (u .more) _ f rest (u .after) in
+    let p = pair-sound read sound (λ a b. chance r v (until (n .value) a b)) (n .more) f rest (n .after) in
     record {
       tokens = bytes "P" ∷ sign ∷ threshold ∷ bytes "U" ∷ n .token ∷ p .s ++ p .t;
       spells = subst (λ x. Spells x (bytes "P" ∷ sign ∷ threshold ∷ bytes "U" ∷ n .token ∷ p .s ++ p .t)) (p .is)
-          (spells-until sign threshold (n .token) r e i (n .is) (p .first) (p .second));
+          (spells-until sign threshold (n .token) r v (n .value) e i (n .is) (p .first) (p .second));
       split = ap (λ (l : List Text). bytes "P" ∷ sign ∷ threshold ∷ l)
           (u .tokens ∙ ap (λ (l : List Text). bytes "U" ∷ l) (n .tokens ∙ ap (λ (l : List Text). n .token ∷ l) (p .split)));
     }
@@ -215,9 +199,9 @@ state-sound read sound w ampersand i ts f rest h =
       split = ap (λ (y : Text). y ∷ ts) i ∙ ap (λ (l : List Text). bytes "&" ∷ l) (p .split);
     }
 state-sound read sound w chances i ts f rest h =
-    let c = sign-found ts _ f rest h in
-    let n = number-found (c .more) _ f rest (c .after) in
-    let x = until-sound read sound (c .token) (n .token) (c .sign) (n .more) f rest (c .is) (n .is) (n .after) in
+    let c = token-found comparisonOf ts _ f rest h in
+    let n = token-found numberOf (c .more) _ f rest (c .after) in
+    let x = until-sound read sound (c .token) (n .token) (c .value) (n .value) (n .more) f rest (c .is) (n .is) (n .after) in
     record {
       tokens = x .tokens;
       spells = x .spells;
@@ -242,29 +226,25 @@ pair-complete : (read : Reader) (make : Formula → Formula → Formula) (a b : 
 unfolding pair andThen
 pair-complete read make a b s t h k rest = rw (append-assoc s t rest, h (t ++ rest), k rest) refl
 
--- the tokens of `P`, in order
-number-token : (w : Text) (ts : List Text) (next : ℕ → List Text → Found) → isNumber formulaDigits w ≡ true → onNumber (w ∷ ts) next ≡ next (valueOf w) ts
-unfolding onNumber
-number-token w ts next i = rw (i, onNumber) refl
-
-sign-token : (w : Text) (ts : List Text) (next : Comparison → List Text → Found) (r : Comparison) → comparisonOf w ≡ some r
-    → onComparison (w ∷ ts) next ≡ next r ts
-unfolding onComparison
-sign-token w ts next r e = rw (e, onComparison) refl
+-- the tokens of `P`
+spelled-token : {A : Type 0} (spelled : Text → Option A) (w : Text) (ts : List Text) (next : A → List Text → Found) (a : A) → spelled w ≡ some a
+    → onToken spelled (w ∷ ts) next ≡ next a ts
+unfolding onToken
+spelled-token spelled w ts next a e = rw (e, onToken) refl
 
 u-token : (ts : List Text) (next : List Text → Found) → onWord (bytes "U") (bytes "U" ∷ ts) next ≡ next ts
 unfolding onWord same
 u-token ts next = refl
 
-until-complete : (read : Reader) (a b : Formula) (s t : List Text) (sign threshold hours : Text) (r : Comparison)
-    → comparisonOf sign ≡ some r → isNumber formulaDigits threshold ≡ true → isNumber formulaDigits hours ≡ true
+until-complete : (read : Reader) (a b : Formula) (s t : List Text) (sign threshold hours : Text) (r : Comparison) (v u : ℕ)
+    → comparisonOf sign ≡ some r → numberOf threshold ≡ some v → hundredthsOf hours ≡ some u
     → Complete read a s → Complete read b t → (rest : List Text)
     → state read (bytes "P") chances (sign ∷ threshold ∷ bytes "U" ∷ hours ∷ (s ++ t ++ rest))
-    ≡ found (chance r (valueOf threshold) (until (valueOf hours) a b)) rest
+    ≡ found (chance r v (until u a b)) rest
 unfolding state path
-until-complete read a b s t sign threshold hours r e i j h k rest =
-    sign-token sign _ _ r e ∙ number-token threshold _ _ i ∙ u-token _ _ ∙ number-token hours _ _ j
-    ∙ pair-complete read (λ a b. chance r (valueOf threshold) (until (valueOf hours) a b)) a b s t h k rest
+until-complete read a b s t sign threshold hours r v u e i j h k rest =
+    spelled-token comparisonOf sign _ _ r e ∙ spelled-token numberOf threshold _ _ v i ∙ u-token _ _
+    ∙ spelled-token hundredthsOf hours _ _ u j ∙ pair-complete read (λ a b. chance r v (until u a b)) a b s t h k rest
 
 not-complete : (read : Reader) (a : Formula) (s rest : List Text) → Complete read a s → state read (bytes "!") bang (s ++ rest) ≡ found (negated a) rest
 unfolding state andThen
@@ -302,10 +282,10 @@ read-complete (spells-both {a = a} {b = b} {s = s} {t = t} p q) (suc k) l rest =
     rw (fixed-heads .2)
     (both-complete (readState k) a b s t rest (λ x. read-complete p k (omega (arith, length-append s t)) x)
     (λ x. read-complete q k (omega (arith, length-append s t)) x))
-read-complete (spells-until sign threshold hours r e i j p q) zero l rest = absurd (omega arith)
-read-complete (spells-until {a = a} {b = b} {s = s} {t = t} sign threshold hours r e i j p q) (suc k) l rest =
+read-complete (spells-until sign threshold hours r v u e i j p q) zero l rest = absurd (omega arith)
+read-complete (spells-until {a = a} {b = b} {s = s} {t = t} sign threshold hours r v u e i j p q) (suc k) l rest =
     rw (fixed-heads .3)
-    (until-complete (readState k) a b s t sign threshold hours r e i j (λ x. read-complete p k (omega (arith, length-append s t)) x)
+    (until-complete (readState k) a b s t sign threshold hours r v u e i j (λ x. read-complete p k (omega (arith, length-append s t)) x)
     (λ x. read-complete q k (omega (arith, length-append s t)) x) rest)
 
 -- so tokens are read as a formula exactly where they spell it, all of them

@@ -10,8 +10,8 @@ read-hours-requires c κs = search needs
 enum-told : tie.Need-enum-told
 enum-told c = search needs
 
-enum-known-hours : tie.Need-enum-known-hours
-enum-known-hours c = search needs
+enum-known-hundredths : tie.Need-enum-known-hundredths
+enum-known-hundredths c = search needs
 
 after-two-requires : tie.Need-after-two-requires
 after-two-requires c κs = search needs
@@ -37,7 +37,7 @@ read-path-spec =
     (tie.spec
     read-hours-requires
     enum-told
-    enum-known-hours
+    enum-known-hundredths
     after-two-requires
     second-nodes-requires
     before-requires

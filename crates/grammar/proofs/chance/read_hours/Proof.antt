@@ -19,8 +19,8 @@ same-requires c κs = search needs
 part-requires-2 : tie.Need-part-requires-2
 part-requires-2 c κs = search needs
 
-read-amount-requires : tie.Need-read-amount-requires
-read-amount-requires c κs = search needs
+read-hundredths-requires : tie.Need-read-hundredths-requires
+read-hundredths-requires c κs = search needs
 
 returns : tie.Need-returns
 returns c = search (needs, hours-laws)
@@ -37,6 +37,6 @@ read-hours-spec =
     slice-aggregate-same
     same-requires
     part-requires-2
-    read-amount-requires
+    read-hundredths-requires
     returns
     returns-2)
