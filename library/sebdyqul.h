@@ -4,9 +4,10 @@
  * needs memcpy and memset alone. The function keeps nothing between calls and allocates nothing, so that calls may run at the same time
  * on buffers of their own.
  *
- * Proved of it (crates/sebdyqul): for all bytes of the texts and all lengths it does what document 01 says. Nothing checks the caller:
- * each pointer leads to as many elements as the length after it says, is not null (any address does for a length of 0) and is aligned
- * for its type, and none of the seven that are written to overlaps another or a text.
+ * Proved of it (crates/sebdyqul): for all bytes of the texts and all lengths it does what document 01 says, with those requests of
+ * document 02 that docs/REQUESTS.md lists. Nothing checks the caller: each pointer leads to as many elements as the length after it
+ * says, is not null (any address does for a length of 0) and is aligned for its type, and none of the seven that are written to overlaps
+ * another or a text.
  */
 #ifndef SEBDYQUL_H
 #define SEBDYQUL_H

@@ -79,7 +79,7 @@ mod tests {
     use super::*;
 
     /// Two states, one move line, three nodes, and the lengths that these need.
-    const JOB: [&[u8]; 3] = [b"from,to,rate\n0,1,500\n", b"state,up,dead\n0,1,0\n1,0,1\n", b"P < 1 U 8 up dead\n"];
+    const JOB: [&[u8]; 3] = [b"from,to,rate\n0,1,500\n", b"state,up,dead\n0,1,0\n1,0,1\n", b"P < 1 U 8.25 up dead\n"];
     const NEEDED: [usize; 6] = [2, 2, 2, 1, 532, 6];
 
     /// What the job ends with where so many elements of each buffer are lent.

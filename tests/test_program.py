@@ -8,6 +8,7 @@ from reckoning.judge import judge
 from reckoning.limits import BILLION, HOUR, MOST_HUNDREDTHS, MOST_LEVELS
 from reckoning.report import read_report, refused
 from reckoning.sheets import FAST_MOVES, FORMULA, FULL_MOVES, HOURS_8, LABELS, MOVES, NO_MOVES, REPORT, until
+from reckoning.tests.vectors import MISSING, cases, texts_of
 from tests import edges
 from tests.agreement import refusal_number, tried
 from tests.jobs import damaged_job, random_job
@@ -39,6 +40,24 @@ class Program(unittest.TestCase):
         rng = random.Random(2)
         judged = [self.agrees(random_job(rng)) for _ in range(MADE)]
         self.assertGreater(sum(judged), 0.9 * MADE)
+
+    @unittest.skipIf(MISSING, MISSING)
+    def test_vectors(self):
+        for case in cases():
+            with self.subTest(case["name"]):
+                printed = run(texts_of(case))
+                if "refused" in case:
+                    self.assertEqual(printed, refused(case["refused"]))
+                else:
+                    self.within(case, read_report(printed, len(case["lower"])))
+
+    def within(self, case, rows):
+        """Every row of a report is as a vector allows it."""
+        for row, lower, upper, verdicts in zip(rows, case["lower"], case["upper"], case["verdict"], strict=True):
+            self.assertEqual(row.depth, case["depth"])
+            self.assertTrue(lower[0] <= row.lower <= lower[1] and upper[0] <= row.upper <= upper[1], row)
+            self.assertIn(row.verdict, verdicts)
+            self.assertLessEqual(row.upper - row.lower, BILLION if case.get("width") is None else case["width"])
 
     def test_limits(self):
         for name, pair in edges.pairs().items():

@@ -2,6 +2,7 @@
 from collections import namedtuple
 from decimal import ROUND_CEILING, Decimal
 from html import escape
+from itertools import chain
 
 from reckoning.limits import BILLION
 
@@ -15,6 +16,7 @@ WIDTH, HEIGHT = 860, 580
 LEFT, RIGHT, TOP, BOTTOM = 110, 830, 132, 490       # of the plot
 LEGEND = 106
 MOST_TICKS = 9
+OF_AN_HOUR = Decimal("0.01"), Decimal("0.05"), Decimal("0.25")      # steps of ticks below an hour
 MOST_MARKS = 60             # with more points the lines go without marks
 FAR = 5                     # a threshold over so many times the greatest upper end is not drawn
 TITLE_LETTERS, LINE_LETTERS = 64, 90
@@ -66,18 +68,21 @@ def axes(points, threshold):
     greatest = greatest or Decimal(BILLION)
     step = tick_step(greatest)
     top = (greatest / step).to_integral_value(ROUND_CEILING) * step
-    return (Axis(first, last, LEFT, RIGHT, ticks(first, last, tick_step(last - first))),
+    return (Axis(first, last, LEFT, RIGHT, ticks(first, last, tick_step(last - first, OF_AN_HOUR))),
             Axis(Decimal(0), top, BOTTOM, TOP, ticks(Decimal(0), top, step)))
 
 
-def tick_step(span):
-    """The least of 1, 2, 5, 10, 20, .. that makes few ticks."""
+def steps():
+    """1, 2, 5, 10, 20, .."""
     power = Decimal(1)
     while True:
-        for factor in (1, 2, 5):
-            if span / (power * factor) <= MOST_TICKS - 1:
-                return power * factor
+        yield from (power, 2 * power, 5 * power)
         power *= 10
+
+
+def tick_step(span, finer=()):
+    """The least of some finer steps and of 1, 2, 5, 10, 20, .. that makes few ticks."""
+    return next(step for step in chain(finer, steps()) if span / step <= MOST_TICKS - 1)
 
 
 def ticks(low, high, step):

@@ -17,3 +17,4 @@ pub mod SummedEnds
 pub mod Reading
 pub mod UntilEnds
 pub mod Found
+pub mod WholeHours

@@ -1,4 +1,4 @@
--- Document 01's bench values: the jobs, and what is said of them. `Laws.Bench` shows it. Assumes nothing.
+-- Document 01's bench values, and those of the requests: the jobs, and what is said of them. `Laws.Bench` shows it. Assumes nothing.
 use mathlib.Core.Path.{_≡_}
 use Prim.Native.Nat.{ℕ, zero, suc, _+_, _*_, _≤_}
 use Prim.Native.String.{String}
@@ -93,11 +93,12 @@ pub record BenchValues : Type 0 where
   pub at-least-0 : (c : Chain) (w : Path) (lower upper : ℕ → ℕ) (v : ℕ → Verdict)
       → Reported c (chance AtLeast 0 w) lower upper v → AtEach c λ s. v s ≡ Yes
 
--- Hours with decimals, over the small sheet and q 64,000,000, and the numbers of the paper.
+-- Hours with decimals, over the small sheet and with q 64,000,000, and the numbers of the request.
 pub record DecimalHours : Type 0 where
   -- "`8.25` and `8.5` are good"; so are hours below 1
   pub quarter : Accepts (small "P >= 5 U 8.25 up dead\n") (chance AtLeast 5 (until 825 up dead)) 500 42
   pub half : Accepts (small "P >= 5 U 8.5 up dead\n") (chance AtLeast 5 (until 850 up dead)) 500 42
+  pub zero-inside : Accepts (small "P >= 5 U 8.05 up dead\n") (chance AtLeast 5 (until 805 up dead)) 500 42
   pub minutes : Accepts (small "P >= 5 U 0.05 up dead\n") (chance AtLeast 5 (until 5 up dead)) 500 42
   -- "`8.50` breaks the grammar"; so does whatever else is not one or two decimals behind a number
   pub trailing-zero : Refuses (small "P >= 5 U 8.50 up dead\n") 10
@@ -113,9 +114,12 @@ pub record DecimalHours : Type 0 where
   pub ten-digits : Refuses (small "P >= 5 U 9999999999.99 up dead\n") 13
   pub over-the-top : Refuses (small "P >= 5 U 8760.01 up dead\n") 13
   pub mostHundredths-is : mostHundredths ≡ 876000
-  -- "14 compares q × hundredths with 6,400,000,000"; "The load is q × hundredths / 100,000,000"
+  -- "14 compares q × hundredths with 6,400,000,000"
   pub over-load : Refuses (fast "P >= 5 U 1.01 up dead\n") 14
   pub mostRateHundredths-is : mostRateHundredths ≡ 6400000000
+  -- "The load is q × hundredths / 100,000,000": loads of 32 and of 1.28
+  pub half-load : Accepts (fast "P >= 5 U 0.5 up dead\n") (chance AtLeast 5 (until 50 up dead)) 64000000 104
+  pub load-rounded-up : Accepts (fast "P >= 5 U 0.02 up dead\n") (chance AtLeast 5 (until 2 up dead)) 64000000 44
   pub rateHundredths-is : rateHundredths ≡ 100000000
 
 -- "`P <= 10000000 U 8 up dead`: .. lower ≤ 3,992,010, upper ≥ 3,992,011, width ≤ 168, yes at state 0", of every report

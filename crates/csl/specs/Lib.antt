@@ -1,4 +1,4 @@
--- Document 01 as definitions, in its order: read these from top to bottom beside it.
+-- Document 01 as definitions, in its order, with the requests of document 02 that have landed: read these from top to bottom beside them.
 pub mod Text
 pub mod Limits
 pub mod Number

@@ -1,4 +1,4 @@
--- Document 01's limits, each under its own name. Assumes nothing.
+-- The limits of document 01, with what the requests of document 02 make of them, each under its own name. Assumes nothing.
 use Prim.Native.Nat.{ℕ, _*_}
 
 -- "A billionth is 1/1,000,000,000; thresholds and interval ends are whole billionths."

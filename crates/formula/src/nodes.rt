@@ -1,8 +1,8 @@
 // The nodes of a formula in a row, by value: operands before their node, the outermost node last.
 use verdicts::Comparison;
 
-// A path formula: its hours, in hundredths, and the places of its two operands. It is a struct as long as there is one kind of path formula, since an
-// enum of one variant is not covered by the borrow checker.
+// A path formula: its hours, in hundredths, and the places of its two operands. It is a struct as long as there is one kind of path formula,
+// since an enum of one variant is not covered by the borrow checker.
 pub struct Path {
     pub hundredths: u64,
     pub first: usize,

@@ -2,10 +2,10 @@
 use mathlib.Core.Path.{_≡_, refl, sym, ap, _∙_}
 use Prim.Native.Nat.{ℕ, _+_, _*_, _-_, _≤_, _<_}
 use native.Mathlib.Omega.{arith}
-use mathlib.Core.Bool.{Bool, true, false, cond, not, _&&_, and-true, and-false, and-eq-true-iff}
+use mathlib.Core.Bool.{Bool, true, false, cond, _&&_, and-false, and-eq-true-iff}
 use mathlib.Core.List.{List, [], _∷_, headD}
 use mathlib.Core.Option.{Option, some, none, Option·none-ne-some, Option·some-injective}
-use lib.ListN.{length, take, drop, getD}
+use lib.ListN.{length, drop, getD}
 use lib.Dec.{leb, eqb}
 use borrow.Author.Tests.{leb-true, leb-false, ne-eqb, not-true, not-false}
 use Rattle.csl.specs.Text.{Text}
@@ -22,13 +22,7 @@ use Rattle.grammar.specs.Chance.{amountMeant, AmountFits}
 use Rattle.grammar.specs.Hours.{decimalsIn}
 use Rattle.grammar.specs.declared.chance.Amount.{Amount}
 use Rattle.grammar.specs.declared.chance.Amount.the-variants.{Is, Missing}
-
--- a test on an answer that is known
-pub passes : {r p : Bool} → r ≡ p → not r ≡ false → p ≡ true
-passes e h = sym e ∙ not-false _ h
-
-pub fails : {r p : Bool} → r ≡ p → not r ≡ true → p ≡ false
-fails e h = sym e ∙ not-true _ h
+use Rattle.grammar.proofs.HeadLaw.{told}
 
 -- one decimal
 module _ (d : ℕ) where
@@ -62,14 +56,14 @@ module _ (d e : ℕ) where
   unfolding isDecimals decimalsOf valueFrom
   two-good h k l = rw (h, k, ne-eqb e 48 l) (ap (λ (v : ℕ). some v) (omega arith))
 
--- a digit in 64 bits, less that of 0
+-- what a digit is at least and at most
 pub digit-least : (d : ℕ) → isDigit d ≡ true → 48 ≤ d
 digit-least d h = digit-range d h .0
 
 pub digit-most : (d : ℕ) → isDigit d ≡ true → d ≤ 57
 digit-most d h = digit-range d h .1
 
-pub ruleset decimal-laws = (digit-least, passes, fails, one-other, one-zero, one-good, two-first, two-second, two-zero, two-good)
+pub ruleset decimal-laws = (told, not-true, not-false, digit-least, one-other, one-zero, one-good, two-first, two-second, two-zero, two-good)
 
 -- a text of one byte, of two, of another number of them
 pub one-byte : (s : Text) {o : Option ℕ} → length s ≡ 1 → o ≡ decimalsIn (getD s 0 0 ∷ []) → o ≡ decimalsIn s
@@ -92,26 +86,26 @@ other-length (b ∷ c ∷ d ∷ s) h k = refl
 
 pub ruleset length-laws = (one-byte, two-bytes, other-length)
 
--- decimals are less than an hour, and no point is among them
+-- no point is among the digits of decimals, and they are less than an hour
 digit-no-point : (d : ℕ) → isDigit d ≡ true → eqb d point ≡ false
 digit-no-point d h = ne-eqb d point (λ e. omega (arith, digit-range d h))
+
+both-digits : (d e : ℕ) → isDecimals (d ∷ e ∷ []) ≡ true → (isDigit d ≡ true) × (isDigit e ≡ true)
+unfolding isDecimals
+both-digits d e h = and-eq-true-iff (isDigit d) (isDigit e) .0 (and-eq-true-iff (isDigit d && isDigit e) _ .0 h .0)
 
 decimals-below : (x : Text) → isDecimals x ≡ true → decimalsOf x < hour
 unfolding isDecimals decimalsOf valueFrom
 decimals-below [] h = omega arith
 decimals-below (d ∷ []) h = omega (arith, digit-range d (and-eq-true-iff (isDigit d) _ .0 h .0))
-decimals-below (d ∷ e ∷ []) h =
-    let p : (isDigit d ≡ true) × (isDigit e ≡ true) = and-eq-true-iff (isDigit d) (isDigit e) .0 (and-eq-true-iff (isDigit d && isDigit e) _ .0 h .0) in
-    omega (arith, digit-range d (p .0), digit-range e (p .1))
+decimals-below (d ∷ e ∷ []) h = omega (arith, digit-range d (both-digits d e h .0), digit-range e (both-digits d e h .1))
 decimals-below (d ∷ e ∷ f ∷ s) h = let z : _≡_ {A = ℕ} 0 1 = cc in absurd (omega arith)
 
 decimals-part : (x : Text) → isDecimals x ≡ true → parts point x ≡ x ∷ []
 unfolding isDecimals parts ahead
 decimals-part [] h = refl
 decimals-part (d ∷ []) h = rw (digit-no-point d (and-eq-true-iff (isDigit d) _ .0 h .0))
-decimals-part (d ∷ e ∷ []) h =
-    let p : (isDigit d ≡ true) × (isDigit e ≡ true) = and-eq-true-iff (isDigit d) (isDigit e) .0 (and-eq-true-iff (isDigit d && isDigit e) _ .0 h .0) in
-    rw (digit-no-point d (p .0), digit-no-point e (p .1))
+decimals-part (d ∷ e ∷ []) h = rw (digit-no-point d (both-digits d e h .0), digit-no-point e (both-digits d e h .1))
 decimals-part (d ∷ e ∷ f ∷ s) h = let z : _≡_ {A = ℕ} 0 1 = cc in absurd (omega arith)
 
 -- a number f and, behind the point, a text x
@@ -136,19 +130,19 @@ no-number f (x ∷ []) h = rw h
 no-number f (x ∷ y ∷ l) h = refl
 
 -- what was read is a number, or is none
-pub record Told (test : Bool) (value v : ℕ) : Type 0 where
+pub record Known (test : Bool) (value v : ℕ) : Type 0 where
   pub passed : test ≡ true
   pub is : value ≡ v
 
-told : (test : Bool) (value v : ℕ) {a : Amount} → amountMeant a ≡ cond test (some value) none → a ≡ Is v → Told test value v
-told test value v {a} e h = go test (rw h at e)
+known : (test : Bool) (value v : ℕ) {a : Amount} → amountMeant a ≡ cond test (some value) none → a ≡ Is v → Known test value v
+known test value v {a} e h = go test (rw h at e)
   where
-    go : (test : Bool) → some v ≡ cond test (some value) none → Told test value v
+    go : (test : Bool) → some v ≡ cond test (some value) none → Known test value v
     go true e = record { passed = refl; is = sym (Option·some-injective _ _ e) }
     go false e = absurd (Option·none-ne-some _ (sym e))
 
-untold : (test : Bool) (value : ℕ) {a : Amount} → amountMeant a ≡ cond test (some value) none → a ≡ Missing → test ≡ false
-untold test value {a} e h = go test (rw h at e)
+unknown : (test : Bool) (value : ℕ) {a : Amount} → amountMeant a ≡ cond test (some value) none → a ≡ Missing → test ≡ false
+unknown test value {a} e h = go test (rw h at e)
   where
     go : (test : Bool) → none ≡ cond test (some value) none → test ≡ false
     go true e = absurd (Option·none-ne-some _ e)
@@ -159,12 +153,12 @@ module _ (a : Amount) (fits : AmountFits a) (v : ℕ) (is : a ≡ Is v) where
   small : v < 10000000000
   small = rw is at fits
 
-  pub hours-fit : v * 100 < 18446744073709551616
+  pub hours-fit : v * hour < 18446744073709551616
   hours-fit = omega (arith, small)
 
-  pub sum-fits : (x : Text) (b : Amount) → amountMeant b ≡ decimalsIn x → (d : ℕ) → b ≡ Is d → v * 100 + d < 18446744073709551616
+  pub sum-fits : (x : Text) (b : Amount) → amountMeant b ≡ decimalsIn x → (d : ℕ) → b ≡ Is d → v * hour + d < 18446744073709551616
   sum-fits x b read d e =
-      let t : Told (isDecimals x) (decimalsOf x) d = told _ _ _ read e in
+      let t : Known (isDecimals x) (decimalsOf x) d = known _ _ _ read e in
       omega (arith, small, t .is, decimals-below x (t .passed))
 
 -- a was read from the part before the first point of w; behind it stands the rest
@@ -176,12 +170,12 @@ module _ (w first rest : Text) (a : Amount) (cut : first ≡ headD (parts point 
 
   pub hours-missing : a ≡ Missing → none ≡ hundredthsOf w
   unfolding hundredthsOf numberOf
-  hours-missing e = rw (split, no-number first (partsBehind point rest) (untold (isNumber formulaDigits first) _ read e))
+  hours-missing e = rw (split, no-number first (partsBehind point rest) (unknown (isNumber formulaDigits first) _ read e))
 
   module _ (v : ℕ) (is : a ≡ Is v) where
-    number : Told (isNumber formulaDigits first) (valueOf first) v
+    number : Known (isNumber formulaDigits first) (valueOf first) v
     unfolding numberOf
-    number = told _ _ _ read is
+    number = known _ _ _ read is
 
     -- nothing stands behind it
     pub hours-whole : length rest ≡ 0 → some (v * hour) ≡ hundredthsOf w
@@ -197,10 +191,10 @@ module _ (w first rest : Text) (a : Amount) (cut : first ≡ headD (parts point 
 
       pub hours-broken : b ≡ Missing → none ≡ hundredthsOf w
       unfolding hundredthsOf
-      hours-broken e = rw (split, behind-point rest more, ← at, no-decimals first x (untold (isDecimals x) _ decimals-read e))
+      hours-broken e = rw (split, behind-point rest more, ← at, no-decimals first x (unknown (isDecimals x) _ decimals-read e))
 
       pub hours-decimal : (d : ℕ) → b ≡ Is d → some (v * hour + d) ≡ hundredthsOf w
       unfolding hundredthsOf
       hours-decimal d e =
-          let t : Told (isDecimals x) (decimalsOf x) d = told _ _ _ decimals-read e in
+          let t : Known (isDecimals x) (decimalsOf x) d = known _ _ _ decimals-read e in
           rw (split, behind-point rest more, ← at, decimals first x (number .passed) (t .passed), number .is, t .is)

@@ -1,4 +1,4 @@
-// The limits, units and sizes of document 01 as constants of the code. `all` holds all of them, and its promise says that each is the
+// The limits, units and sizes of documents 01 and 02 as constants of the code. `all` holds all of them, and its promise says that each is the
 // number that crates/csl has under the same name.
 ghost use Rattle.limits.specs.Tied.{Tied};
 

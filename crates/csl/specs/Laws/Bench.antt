@@ -1,4 +1,4 @@
--- The starred bench values hold. Assumes nothing.
+-- The starred bench values, and those of hours with decimals, hold. Assumes nothing.
 use mathlib.Core.Path.{_≡_, refl, ap, _∙_}
 use mathlib.Core.Bool.{Bool, true, false, cond}
 use Prim.Native.Nat.{ℕ, _*_, _<_}
@@ -139,6 +139,7 @@ decimal-hours =
     record {
       quarter = refl;
       half = refl;
+      zero-inside = refl;
       minutes = refl;
       trailing-zero = refl;
       only-zero = refl;
@@ -154,5 +155,7 @@ decimal-hours =
       mostHundredths-is = refl;
       over-load = refl;
       mostRateHundredths-is = refl;
+      half-load = refl;
+      load-rounded-up = refl;
       rateHundredths-is = refl;
     }

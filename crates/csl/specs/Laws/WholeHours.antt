@@ -3,17 +3,16 @@ use mathlib.Core.Path.{_≡_, refl, ap}
 use mathlib.Core.Bool.{Bool, true, false, cond, _||_}
 use mathlib.Core.List.{[], _∷_}
 use mathlib.Core.Option.{none, some}
-use Prim.Native.Nat.{ℕ, zero, suc, _+_, _*_, _≤_, _<_}
+use Prim.Native.Nat.{ℕ, zero, suc, _*_}
 use native.Mathlib.Omega.{arith}
 use lib.Dec.{leb, eqb}
 use borrow.Author.Tests.{le-leb, lt-leb, leb-true, leb-false}
 use Rattle.csl.specs.Text.{Text, any}
-use Rattle.csl.specs.Limits.{formulaDigits, hour, mostHundredths, mostRateHundredths, spareSteps}
+use Rattle.csl.specs.Limits.{formulaDigits, hour}
 use Rattle.csl.specs.Number.{isNumber, valueOf}
 use Rattle.csl.specs.Line.{ahead, parts}
 use Rattle.csl.specs.Hours.{point, hundredthsIn, hundredthsOf}
 use Rattle.csl.specs.Fraction.{Fraction, frac, Same, plus, times, over, sumUp, roundUp}
-use Rattle.csl.specs.Chain.{Chain, topRate, load, depth}
 use Rattle.csl.specs.Phase.{weight, quotient}
 
 -- a text without the mark is one part

@@ -1,7 +1,7 @@
 -- `one_decimal` meets its contract, by the laws of `HoursLaw`. Assumes nothing.
 use borrow.Author.Needs.{needs}
 use native.Mathlib.Omega.{arith}
-use Rattle.grammar.proofs.HoursLaw.{passes, digit-most, decimal-laws}
+use Rattle.grammar.proofs.HoursLaw.{digit-most, decimal-laws}
 use Rattle.grammar.proofs.hours.one_decimal.Statement.{statement}
 use Rattle.grammar.proofs.hours.one_decimal.Tie as tie
 
@@ -18,7 +18,7 @@ sub-t4 : tie.Need-sub-t4
 sub-t4 c = search (needs, decimal-laws)
 
 mul-t5 : tie.Need-mul-t5
-mul-t5 c = omega (arith, digit-most (c .before .before .before .args .d) (search (needs, passes)))
+mul-t5 c = omega (arith, digit-most (c .before .before .before .args .d) (search (needs, decimal-laws)))
 
 returns-3 : tie.Need-returns-3
 returns-3 c = search (needs, decimal-laws)

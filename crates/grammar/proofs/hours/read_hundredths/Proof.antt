@@ -1,6 +1,5 @@
 -- `read_hundredths` meets its contract, by the laws of `HoursLaw`. Assumes nothing.
 use borrow.Author.Needs.{needs}
-use native.Mathlib.Omega.{arith}
 use Rattle.grammar.proofs.HoursLaw.{hours-fit, sum-fits, hours-missing, hours-whole, hours-broken, hours-decimal}
 use Rattle.texts.specs.Cut.{rest-is}
 use Rattle.grammar.proofs.hours.read_hundredths.Statement.{statement}
