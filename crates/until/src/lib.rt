@@ -48,7 +48,8 @@ fn summed(
     vectors::clear_work(words, n);
 }
 
-// The two ends of each state for an until over t hundredths of an hour, and the depth; the words are prepared, and each operand's verdict bytes are one row.
+// The two ends of each state for an until over t hundredths of an hour, and the depth; the words are prepared, and each operand's verdict
+// bytes are one row.
 pub fn until(
     moves: &[u64],
     words: &mut [u64],
