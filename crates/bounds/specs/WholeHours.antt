@@ -14,6 +14,7 @@ use Rattle.csl.specs.Chain.{Chain, topRate}
 use Rattle.csl.specs.Verdicts.{Verdict, least, most}
 use Rattle.csl.specs.Until.{untilPhase}
 use Rattle.csl.specs.Theorems.{whole-hours-have-their-depth}
+use Rattle.csl.specs.Laws.WholeHours.{in-hundredths}
 use Rattle.bounds.specs.Ladder.{ladder}
 use Rattle.bounds.specs.Weight.{peak, low, apart}
 use Rattle.bounds.specs.Unit.{one, part}
@@ -86,15 +87,12 @@ module _ (c : Chain) (t : ℕ) (v w : ℕ → Verdict) (s : ℕ) where
   abbrev deep : ℕ
   deep = 2 * roundUp (frac top 1000000) + spareSteps
 
-  in-hundredths : topRate c * (t * hour) ≡ top * hour
-  in-hundredths = omega arith
-
   pub whole-hours-lower : lowerFound c (t * hour) v w s
       ≡ untilLowerOf top 1000000 deep (v s) (w s) (λ k. rounded c (untilPhase (least v) (least w)) k s)
   whole-hours-lower =
       rw (
         whole-hours-have-their-depth c t,
-        in-hundredths,
+        in-hundredths (topRate c) t,
         nothing-times top,
         whole-part top,
         lower-times hour (omega arith) top 1000000 (top / 1000000) deep (λ k. rounded c (untilPhase (least v) (least w)) k s),
@@ -105,7 +103,7 @@ module _ (c : Chain) (t : ℕ) (v w : ℕ → Verdict) (s : ℕ) where
   whole-hours-upper =
       rw (
         whole-hours-have-their-depth c t,
-        in-hundredths,
+        in-hundredths (topRate c) t,
         nothing-times top,
         whole-part top,
         left-times hour (omega arith) top 1000000 (top / 1000000) deep 0 (λ k. rounded c (untilPhase (most v) (most w)) k s),

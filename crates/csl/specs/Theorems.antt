@@ -199,16 +199,13 @@ pub whole-hours-over-the-top : (t : ℕ) → leb (t * hour) mostHundredths ≡ l
 whole-hours-over-the-top t = without-point.counted t 8760
 
 module _ (c : Chain) (t : ℕ) where
-  whole-product : topRate c * (t * hour) ≡ topRate c * t * hour
-  whole-product = omega arith
-
   pub whole-hours-over-the-load : leb (topRate c * (t * hour)) mostRateHundredths ≡ leb (topRate c * t) 64000000
-  whole-hours-over-the-load = rw whole-product (without-point.counted (topRate c * t) 64000000)
+  whole-hours-over-the-load = rw (without-point.in-hundredths (topRate c) t) (without-point.counted (topRate c * t) 64000000)
 
   -- "the load L is q × t / 1,000,000, an exact fraction. The depth D is 2 × (L rounded up to a whole number) + 40."
   pub whole-hours-have-their-depth : depth c (t * hour) ≡ 2 * roundUp (frac (topRate c * t) 1000000) + spareSteps
   unfolding depth load
-  whole-hours-have-their-depth = rw (whole-product, without-point.rounded (topRate c * t))
+  whole-hours-have-their-depth = rw (without-point.in-hundredths (topRate c) t, without-point.rounded (topRate c * t))
 
   pub whole-hours-have-their-quotients : (first second : ℕ → Bool) (s n : ℕ)
       → Same (untilQuotient c (t * hour) first second s n)

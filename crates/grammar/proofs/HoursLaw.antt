@@ -1,10 +1,10 @@
 -- Decimals, and hours as a number and decimals that a point sets apart. Assumes nothing.
-use mathlib.Core.Path.{_≡_, refl, sym, ap, _∙_}
+use mathlib.Core.Path.{_≡_, refl, sym, _∙_}
 use Prim.Native.Nat.{ℕ, _+_, _*_, _-_, _≤_, _<_}
 use native.Mathlib.Omega.{arith}
-use mathlib.Core.Bool.{Bool, true, false, cond, _&&_, and-false, and-eq-true-iff}
+use mathlib.Core.Bool.{Bool, true, false, cond, not, _&&_, false≢true, and-true, and-false, and-eq-true-iff}
 use mathlib.Core.List.{List, [], _∷_, headD}
-use mathlib.Core.Option.{Option, some, none, Option·none-ne-some, Option·some-injective}
+use mathlib.Core.Option.{some, none, Option·none-ne-some, Option·some-injective}
 use lib.ListN.{length, drop, getD}
 use lib.Dec.{leb, eqb}
 use borrow.Author.Tests.{leb-true, leb-false, ne-eqb, not-true, not-false}
@@ -19,94 +19,96 @@ use Rattle.texts.specs.Behind.{partsBehind, behindFirst, parts-first, behind-no
 use Rattle.texts.specs.Cut.{parts-cut, parts-whole}
 use Rattle.csl.specs.Grammar.{numberOf}
 use Rattle.grammar.specs.Chance.{amountMeant, AmountFits}
-use Rattle.grammar.specs.Hours.{decimalsIn}
 use Rattle.grammar.specs.declared.chance.Amount.{Amount}
 use Rattle.grammar.specs.declared.chance.Amount.the-variants.{Is, Missing}
 use Rattle.grammar.proofs.HeadLaw.{told}
 
--- one decimal
-module _ (d : ℕ) where
-  pub one-other : isDigit d ≡ false → none ≡ decimalsIn (d ∷ [])
-  unfolding isDecimals
-  one-other h = rw h
-
-  pub one-zero : d ≡ 48 → none ≡ decimalsIn (d ∷ [])
-  unfolding isDecimals
-  one-zero h = rw h
-
-  pub one-good : isDigit d ≡ true → (d ≡ 48 → ⊥) → some ((d - 48) * 10) ≡ decimalsIn (d ∷ [])
-  unfolding isDecimals decimalsOf valueFrom
-  one-good h k = rw (h, ne-eqb d 48 k) (ap (λ (v : ℕ). some v) (omega arith))
-
--- two decimals
-module _ (d e : ℕ) where
-  pub two-first : isDigit d ≡ false → none ≡ decimalsIn (d ∷ e ∷ [])
-  unfolding isDecimals
-  two-first h = rw h
-
-  pub two-second : isDigit e ≡ false → none ≡ decimalsIn (d ∷ e ∷ [])
-  unfolding isDecimals
-  two-second h = rw (h, and-false)
-
-  pub two-zero : e ≡ 48 → none ≡ decimalsIn (d ∷ e ∷ [])
-  unfolding isDecimals
-  two-zero h = rw (h, and-false)
-
-  pub two-good : isDigit d ≡ true → isDigit e ≡ true → (e ≡ 48 → ⊥) → some ((d - 48) * 10 + (e - 48)) ≡ decimalsIn (d ∷ e ∷ [])
-  unfolding isDecimals decimalsOf valueFrom
-  two-good h k l = rw (h, k, ne-eqb e 48 l) (ap (λ (v : ℕ). some v) (omega arith))
-
--- what a digit is at least and at most
-pub digit-least : (d : ℕ) → isDigit d ≡ true → 48 ≤ d
-digit-least d h = digit-range d h .0
-
-pub digit-most : (d : ℕ) → isDigit d ≡ true → d ≤ 57
-digit-most d h = digit-range d h .1
-
-pub ruleset decimal-laws = (told, not-true, not-false, digit-least, one-other, one-zero, one-good, two-first, two-second, two-zero, two-good)
-
--- a text of one byte, of two, of another number of them
-pub one-byte : (s : Text) {o : Option ℕ} → length s ≡ 1 → o ≡ decimalsIn (getD s 0 0 ∷ []) → o ≡ decimalsIn s
-one-byte [] h e = absurd (omega arith)
-one-byte (b ∷ []) h e = e
-one-byte (b ∷ c ∷ s) h e = absurd (omega arith)
-
-pub two-bytes : (s : Text) {o : Option ℕ} → length s ≡ 2 → o ≡ decimalsIn (getD s 0 0 ∷ getD s 1 0 ∷ []) → o ≡ decimalsIn s
-two-bytes [] h e = absurd (omega arith)
-two-bytes (b ∷ []) h e = absurd (omega arith)
-two-bytes (b ∷ c ∷ []) h e = e
-two-bytes (b ∷ c ∷ d ∷ s) h e = absurd (omega arith)
-
-pub other-length : (s : Text) → (length s ≡ 1 → ⊥) → (length s ≡ 2 → ⊥) → none ≡ decimalsIn s
+-- no decimals: too few bytes or too many, a last byte that is 0, a first that is no digit; else the last one tells
+pub no-byte : (s : Text) → length s < 1 → false ≡ isDecimals s
 unfolding isDecimals
-other-length [] h k = refl
-other-length (b ∷ []) h k = absurd (h refl)
-other-length (b ∷ c ∷ []) h k = absurd (k refl)
-other-length (b ∷ c ∷ d ∷ s) h k = refl
+no-byte [] h = refl
+no-byte (b ∷ s) h = absurd (omega arith)
 
-pub ruleset length-laws = (one-byte, two-bytes, other-length)
+pub three-bytes : (s : Text) → 2 < length s → false ≡ isDecimals s
+unfolding isDecimals
+three-bytes [] h = refl
+three-bytes (b ∷ []) h = absurd (omega arith)
+three-bytes (b ∷ c ∷ []) h = absurd (omega arith)
+three-bytes (b ∷ c ∷ d ∷ s) h = refl
 
--- no point is among the digits of decimals, and they are less than an hour
+pub last-zero : (s : Text) → getD s (length s - 1) 0 ≡ 48 → false ≡ isDecimals s
+unfolding isDecimals
+last-zero [] h = refl
+last-zero (b ∷ []) h = rw h
+last-zero (b ∷ c ∷ []) h = rw (h, and-false)
+last-zero (b ∷ c ∷ d ∷ s) h = refl
+
+pub first-other : (s : Text) → isDigit (getD s 0 0) ≡ false → false ≡ isDecimals s
+unfolding isDecimals
+first-other [] h = refl
+first-other (b ∷ []) h = rw h
+first-other (b ∷ c ∷ []) h = rw h
+first-other (b ∷ c ∷ d ∷ s) h = refl
+
+pub last-tells : (s : Text) → 1 ≤ length s → length s ≤ 2 → (getD s (length s - 1) 0 ≡ 48 → ⊥) → isDigit (getD s 0 0) ≡ true
+    → isDigit (getD s (length s - 1) 0) ≡ isDecimals s
+unfolding isDecimals
+last-tells [] l m h k = absurd (omega arith)
+last-tells (b ∷ []) l m h k = rw (k, ne-eqb b 48 h)
+last-tells (b ∷ c ∷ []) l m h k = rw (k, ne-eqb c 48 h, and-true)
+last-tells (b ∷ c ∷ d ∷ s) l m h k = absurd (omega arith)
+
+pub ruleset decimal-laws = (told, not-true, not-false, no-byte, three-bytes, last-zero, first-other)
+
+-- decimals are a digit, or two
+pub data Decimals : Text → Type 0 where
+  one : (d : ℕ) → isDigit d ≡ true → Decimals (d ∷ [])
+  two : (d e : ℕ) → isDigit d ≡ true → isDigit e ≡ true → Decimals (d ∷ e ∷ [])
+
+pub decimals-are : (s : Text) → isDecimals s ≡ true → Decimals s
+unfolding isDecimals
+decimals-are [] h = absurd (false≢true h)
+decimals-are (d ∷ []) h = one d (and-eq-true-iff (isDigit d) _ .0 h .0)
+decimals-are (d ∷ e ∷ []) h =
+    let p = and-eq-true-iff (isDigit d) (isDigit e) .0 (and-eq-true-iff (isDigit d && isDigit e) _ .0 h .0) in two d e (p .0) (p .1)
+decimals-are (d ∷ e ∷ f ∷ s) h = absurd (false≢true h)
+
+-- so their bytes are in range, and their value is that of the definition
+pub first-there : {s : Text} → Decimals s → 0 < length s
+first-there (one d h) = omega arith
+first-there (two d e h k) = omega arith
+
+pub first-range : {s : Text} → Decimals s → (48 ≤ getD s 0 0) × (getD s 0 0 ≤ 57)
+first-range (one d h) = digit-range d h
+first-range (two d e h k) = digit-range d h
+
+pub second-range : {s : Text} → Decimals s → 2 ≤ length s → (48 ≤ getD s 1 0) × (getD s 1 0 ≤ 57)
+second-range (one d h) l = absurd (omega arith)
+second-range (two d e h k) l = digit-range e k
+
+pub tenths-alone : {s : Text} → Decimals s → length s < 2 → (getD s 0 0 - 48) * 10 ≡ decimalsOf s
+unfolding decimalsOf valueFrom
+tenths-alone (one d h) l = omega arith
+tenths-alone (two d e h k) l = absurd (omega arith)
+
+pub tenths-and-more : {s : Text} → Decimals s → 2 ≤ length s → (getD s 0 0 - 48) * 10 + (getD s 1 0 - 48) ≡ decimalsOf s
+unfolding decimalsOf valueFrom
+tenths-and-more (one d h) l = absurd (omega arith)
+tenths-and-more (two d e h k) l = omega arith
+
+-- they are less than an hour, and no point is among them
+decimals-below : {s : Text} → Decimals s → decimalsOf s < hour
+unfolding decimalsOf valueFrom
+decimals-below (one d h) = omega (arith, digit-range d h)
+decimals-below (two d e h k) = omega (arith, digit-range d h, digit-range e k)
+
 digit-no-point : (d : ℕ) → isDigit d ≡ true → eqb d point ≡ false
 digit-no-point d h = ne-eqb d point (λ e. omega (arith, digit-range d h))
 
-both-digits : (d e : ℕ) → isDecimals (d ∷ e ∷ []) ≡ true → (isDigit d ≡ true) × (isDigit e ≡ true)
-unfolding isDecimals
-both-digits d e h = and-eq-true-iff (isDigit d) (isDigit e) .0 (and-eq-true-iff (isDigit d && isDigit e) _ .0 h .0)
-
-decimals-below : (x : Text) → isDecimals x ≡ true → decimalsOf x < hour
-unfolding isDecimals decimalsOf valueFrom
-decimals-below [] h = omega arith
-decimals-below (d ∷ []) h = omega (arith, digit-range d (and-eq-true-iff (isDigit d) _ .0 h .0))
-decimals-below (d ∷ e ∷ []) h = omega (arith, digit-range d (both-digits d e h .0), digit-range e (both-digits d e h .1))
-decimals-below (d ∷ e ∷ f ∷ s) h = let z : _≡_ {A = ℕ} 0 1 = cc in absurd (omega arith)
-
-decimals-part : (x : Text) → isDecimals x ≡ true → parts point x ≡ x ∷ []
-unfolding isDecimals parts ahead
-decimals-part [] h = refl
-decimals-part (d ∷ []) h = rw (digit-no-point d (and-eq-true-iff (isDigit d) _ .0 h .0))
-decimals-part (d ∷ e ∷ []) h = rw (digit-no-point d (both-digits d e h .0), digit-no-point e (both-digits d e h .1))
-decimals-part (d ∷ e ∷ f ∷ s) h = let z : _≡_ {A = ℕ} 0 1 = cc in absurd (omega arith)
+decimals-part : {s : Text} → Decimals s → parts point s ≡ s ∷ []
+unfolding parts ahead
+decimals-part (one d h) = rw (digit-no-point d h)
+decimals-part (two d e h k) = rw (digit-no-point d h, digit-no-point e k)
 
 -- a number f and, behind the point, a text x
 module _ (f x : Text) where
@@ -121,7 +123,7 @@ module _ (f x : Text) where
   decimals : isNumber formulaDigits f ≡ true → isDecimals x ≡ true
       → hundredthsIn (f ∷ parts point x) ≡ some (valueOf f * hour + decimalsOf x)
   unfolding hundredthsIn
-  decimals h k = rw (decimals-part x k, h, k)
+  decimals h k = rw (decimals-part (decimals-are x k), h, k)
 
 no-number : (f : Text) (l : List Text) → isNumber formulaDigits f ≡ false → hundredthsIn (f ∷ l) ≡ none
 unfolding hundredthsIn
@@ -130,25 +132,25 @@ no-number f (x ∷ []) h = rw h
 no-number f (x ∷ y ∷ l) h = refl
 
 -- what was read is a number, or is none
-pub record Known (test : Bool) (value v : ℕ) : Type 0 where
+pub record IsRead (test : Bool) (value v : ℕ) : Type 0 where
   pub passed : test ≡ true
   pub is : value ≡ v
 
-known : (test : Bool) (value v : ℕ) {a : Amount} → amountMeant a ≡ cond test (some value) none → a ≡ Is v → Known test value v
-known test value v {a} e h = go test (rw h at e)
+is-read : (test : Bool) (value v : ℕ) {a : Amount} → amountMeant a ≡ cond test (some value) none → a ≡ Is v → IsRead test value v
+is-read test value v {a} e h = go test (rw h at e)
   where
-    go : (test : Bool) → some v ≡ cond test (some value) none → Known test value v
+    go : (test : Bool) → some v ≡ cond test (some value) none → IsRead test value v
     go true e = record { passed = refl; is = sym (Option·some-injective _ _ e) }
     go false e = absurd (Option·none-ne-some _ (sym e))
 
-unknown : (test : Bool) (value : ℕ) {a : Amount} → amountMeant a ≡ cond test (some value) none → a ≡ Missing → test ≡ false
-unknown test value {a} e h = go test (rw h at e)
+not-read : (test : Bool) (value : ℕ) {a : Amount} → amountMeant a ≡ cond test (some value) none → a ≡ Missing → test ≡ false
+not-read test value {a} e h = go test (rw h at e)
   where
     go : (test : Bool) → none ≡ cond test (some value) none → test ≡ false
     go true e = absurd (Option·none-ne-some _ e)
     go false e = refl
 
--- a number a that was read, in hundredths, and the decimals b behind it stay below 2 ^ 64
+-- a number a that was read, in hundredths, and the decimals behind it stay below 2 ^ 64
 module _ (a : Amount) (fits : AmountFits a) (v : ℕ) (is : a ≡ Is v) where
   small : v < 10000000000
   small = rw is at fits
@@ -156,10 +158,8 @@ module _ (a : Amount) (fits : AmountFits a) (v : ℕ) (is : a ≡ Is v) where
   pub hours-fit : v * hour < 18446744073709551616
   hours-fit = omega (arith, small)
 
-  pub sum-fits : (x : Text) (b : Amount) → amountMeant b ≡ decimalsIn x → (d : ℕ) → b ≡ Is d → v * hour + d < 18446744073709551616
-  sum-fits x b read d e =
-      let t : Known (isDecimals x) (decimalsOf x) d = known _ _ _ read e in
-      omega (arith, small, t .is, decimals-below x (t .passed))
+  pub sum-fits : (x : Text) (d : ℕ) → d ≡ decimalsOf x → isDecimals x ≡ true → v * hour + d < 18446744073709551616
+  sum-fits x d e h = omega (arith, small, decimals-below (decimals-are x h))
 
 -- a was read from the part before the first point of w; behind it stands the rest
 module _ (w first rest : Text) (a : Amount) (cut : first ≡ headD (parts point w) []) (behind : rest ≡ behindFirst point w)
@@ -170,31 +170,30 @@ module _ (w first rest : Text) (a : Amount) (cut : first ≡ headD (parts point 
 
   pub hours-missing : a ≡ Missing → none ≡ hundredthsOf w
   unfolding hundredthsOf numberOf
-  hours-missing e = rw (split, no-number first (partsBehind point rest) (unknown (isNumber formulaDigits first) _ read e))
+  hours-missing e = rw (split, no-number first (partsBehind point rest) (not-read (isNumber formulaDigits first) _ read e))
 
   module _ (v : ℕ) (is : a ≡ Is v) where
-    number : Known (isNumber formulaDigits first) (valueOf first) v
+    number : IsRead (isNumber formulaDigits first) (valueOf first) v
     unfolding numberOf
-    number = known _ _ _ read is
+    number = is-read _ _ _ read is
 
     -- nothing stands behind it
     pub hours-whole : length rest ≡ 0 → some (v * hour) ≡ hundredthsOf w
     unfolding hundredthsOf hundredthsIn
     hours-whole e = rw (split, behind-none point rest (omega arith), number .passed, number .is)
 
-    -- a point stands behind it, and then x, which was read as decimals
-    module _ (x : Text) (more : length rest ≡ 0 → ⊥) (at : x ≡ drop 1 rest) (b : Amount) (decimals-read : amountMeant b ≡ decimalsIn x) where
+    -- a point stands behind it, and then x, of which p says whether it is decimals
+    module _ (x : Text) (more : length rest ≡ 0 → ⊥) (at : x ≡ drop 1 rest) {p : Bool} (says : p ≡ isDecimals x) where
       behind-point : (r : Text) → (length r ≡ 0 → ⊥) → partsBehind point r ≡ parts point (drop 1 r)
       unfolding partsBehind
       behind-point [] h = absurd (h refl)
       behind-point (c ∷ r) h = refl
 
-      pub hours-broken : b ≡ Missing → none ≡ hundredthsOf w
+      pub hours-broken : not p ≡ true → none ≡ hundredthsOf w
       unfolding hundredthsOf
-      hours-broken e = rw (split, behind-point rest more, ← at, no-decimals first x (unknown (isDecimals x) _ decimals-read e))
+      hours-broken h = rw (split, behind-point rest more, ← at, no-decimals first x (told says (not-true p h)))
 
-      pub hours-decimal : (d : ℕ) → b ≡ Is d → some (v * hour + d) ≡ hundredthsOf w
+      pub hours-decimal : not p ≡ false → (d : ℕ) → d ≡ decimalsOf x → some (v * hour + d) ≡ hundredthsOf w
       unfolding hundredthsOf
-      hours-decimal d e =
-          let t : Known (isDecimals x) (decimalsOf x) d = known _ _ _ decimals-read e in
-          rw (split, behind-point rest more, ← at, decimals first x (number .passed) (t .passed), number .is, t .is)
+      hours-decimal h d e =
+          rw (split, behind-point rest more, ← at, decimals first x (number .passed) (told says (not-false p h)), number .is, e)

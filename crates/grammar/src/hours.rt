@@ -5,51 +5,41 @@ use limits::HOUR;
 use texts::ZERO;
 use texts::is_digit;
 ghost use mathlib.Core.Path.{_≡_};
-ghost use mathlib.Core.List.{[], _∷_};
-ghost use Rattle.csl.specs.Hours.{hundredthsOf};
+ghost use mathlib.Core.Bool.{true};
+ghost use Rattle.csl.specs.Hours.{isDecimals, decimalsOf, hundredthsOf};
 ghost use Rattle.grammar.specs.Chance.{amountMeant};
-ghost use Rattle.grammar.specs.Hours.{decimalsIn};
 
-// The hundredths of one decimal.
-fn one_decimal(d: u64) -> Amount
-    ensures { λ r. ⌜ amountMeant r ≡ decimalsIn (d ∷ []) ⌝ }
+// Whether the bytes behind a point are decimals: one or two digits, the last of them not 0.
+fn is_decimals(s: &[u8]) -> bool
+    ensures { λ r. ⌜ r ≡ isDecimals (now (s .entry)) ⌝ }
 {
-    if !is_digit(d) {
-        return Amount::Missing;
+    let n = s.len();
+    if n < 1 {
+        return false;
     }
-    if d == ZERO {
-        return Amount::Missing;
+    if 2 < n {
+        return false;
     }
-    Amount::Is((d - ZERO) * 10)
+    let last = s[n - 1] as u64;
+    if last == ZERO {
+        return false;
+    }
+    if !is_digit(s[0] as u64) {
+        return false;
+    }
+    is_digit(last)
 }
 
-// The hundredths of two decimals.
-fn two_decimals(d: u64, e: u64) -> Amount
-    ensures { λ r. ⌜ amountMeant r ≡ decimalsIn (d ∷ e ∷ []) ⌝ }
+// The hundredths that decimals stand for: one alone stands for tenths.
+fn decimals_of(s: &[u8]) -> u64
+    requires { ⌜ isDecimals (now s) ≡ true ⌝ }
+    ensures { λ r. ⌜ r ≡ decimalsOf (now (s .entry)) ⌝ }
 {
-    if !is_digit(d) {
-        return Amount::Missing;
+    let tenths = (s[0] as u64 - ZERO) * 10;
+    if s.len() < 2 {
+        return tenths;
     }
-    if !is_digit(e) {
-        return Amount::Missing;
-    }
-    if e == ZERO {
-        return Amount::Missing;
-    }
-    Amount::Is((d - ZERO) * 10 + (e - ZERO))
-}
-
-// The hundredths that the bytes behind a point spell: one or two decimals, the last of them not 0.
-fn read_decimals(s: &[u8]) -> Amount
-    ensures { λ r. ⌜ amountMeant r ≡ decimalsIn (now (s .entry)) ⌝ }
-{
-    if s.len() == 1 {
-        return one_decimal(s[0] as u64);
-    }
-    if s.len() == 2 {
-        return two_decimals(s[0] as u64, s[1] as u64);
-    }
-    Amount::Missing
+    tenths + (s[1] as u64 - ZERO)
 }
 
 // The hundredths of an hour that a token spells: a number of hours, and behind it, perhaps, a point and decimals.
@@ -64,10 +54,11 @@ pub fn read_hundredths(w: &[u8]) -> Amount
             if rest.len() == 0 {
                 return Amount::Is(whole);
             }
-            match read_decimals(&rest[1..]) {
-                Amount::Missing => Amount::Missing,
-                Amount::Is(decimals) => Amount::Is(whole + decimals),
+            let decimals = &rest[1..];
+            if !is_decimals(decimals) {
+                return Amount::Missing;
             }
+            Amount::Is(whole + decimals_of(decimals))
         }
     }
 }

@@ -1,5 +1,5 @@
 -- Hours without a point: they are read, tested and weighed as document 01 has it for whole hours. Assumes nothing.
-use mathlib.Core.Path.{_≡_, refl, ap}
+use mathlib.Core.Path.{_≡_, refl}
 use mathlib.Core.Bool.{Bool, true, false, cond, _||_}
 use mathlib.Core.List.{[], _∷_}
 use mathlib.Core.Option.{none, some}
@@ -12,8 +12,9 @@ use Rattle.csl.specs.Limits.{formulaDigits, hour}
 use Rattle.csl.specs.Number.{isNumber, valueOf}
 use Rattle.csl.specs.Line.{ahead, parts}
 use Rattle.csl.specs.Hours.{point, hundredthsIn, hundredthsOf}
-use Rattle.csl.specs.Fraction.{Fraction, frac, Same, plus, times, over, sumUp, roundUp}
+use Rattle.csl.specs.Fraction.{Fraction, frac, Same, times, roundUp}
 use Rattle.csl.specs.Phase.{weight, quotient}
+use Rattle.csl.specs.Laws.Fraction.{same-times, same-over, same-sum}
 
 -- a text without the mark is one part
 pub one-part : (mark : ℕ) (w : Text) → any (λ b. eqb b mark) w ≡ false → parts mark w ≡ w ∷ []
@@ -31,6 +32,10 @@ pub whole-read : (w : Text) → any (λ b. eqb b point) w ≡ false
 unfolding hundredthsOf hundredthsIn
 whole-read w h = rw (one-part point w h)
 
+-- a rate times whole hours, in hundredths
+pub in-hundredths : (q t : ℕ) → q * (t * hour) ≡ q * t * hour
+in-hundredths q t = omega arith
+
 -- a product at most a limit, both counted in hundredths
 pub counted : (a m : ℕ) → leb (a * hour) (m * hour) ≡ leb a m
 counted a m = go (leb a m) refl
@@ -42,25 +47,7 @@ counted a m = go (leb a m) refl
 pub rounded : (a : ℕ) → roundUp (frac (a * hour) (1000000 * hour)) ≡ roundUp (frac a 1000000)
 rounded a = omega arith
 
--- equal fractions in place of equal ones
-same-plus : (x y z w : Fraction) → Same x y → Same z w → Same (plus x z) (plus y w)
-same-plus x y z w h k =
-    omega (arith, ap (λ (n : ℕ). n * (z .bottom * w .bottom)) h, ap (λ (n : ℕ). n * (x .bottom * y .bottom)) k)
-
-same-times : (x y z w : Fraction) → Same x y → Same z w → Same (times x z) (times y w)
-same-times x y z w h k =
-    omega (arith, ap (λ (n : ℕ). n * (z .top * w .bottom)) h, ap (λ (n : ℕ). n * (y .top * x .bottom)) k)
-
-same-over : (x y z w : Fraction) → Same x y → Same z w → Same (over x z) (over y w)
-same-over x y z w h k =
-    omega (arith, ap (λ (n : ℕ). n * (z .bottom * w .top)) h, ap (λ (n : ℕ). n * (y .top * x .bottom)) k)
-
-same-sum : (f g : ℕ → Fraction) → ((k : ℕ) → Same (f k) (g k)) → (n : ℕ) → Same (sumUp f n) (sumUp g n)
-unfolding sumUp
-same-sum f g h zero = h 0
-same-sum f g h (suc n) = same-plus (sumUp f n) (sumUp g n) (f (suc n)) (g (suc n)) (same-sum f g h n) (h (suc n))
-
--- so weights and quotients of equal loads are equal
+-- weights and quotients of equal loads are equal
 module _ (l m : Fraction) (same : Same l m) where
   same-weight : (k : ℕ) → Same (weight l k) (weight m k)
   unfolding weight

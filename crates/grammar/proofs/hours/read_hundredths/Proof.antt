@@ -1,7 +1,9 @@
 -- `read_hundredths` meets its contract, by the laws of `HoursLaw`. Assumes nothing.
 use borrow.Author.Needs.{needs}
-use Rattle.grammar.proofs.HoursLaw.{hours-fit, sum-fits, hours-missing, hours-whole, hours-broken, hours-decimal}
 use Rattle.texts.specs.Cut.{rest-is}
+use Rattle.grammar.proofs.HeadLaw.{told}
+use Rattle.grammar.proofs.HoursLaw.{hours-fit, sum-fits, hours-missing, hours-whole, hours-broken, hours-decimal}
+use borrow.Author.Tests.{not-false}
 use Rattle.grammar.proofs.hours.read_hundredths.Statement.{statement}
 use Rattle.grammar.proofs.hours.read_hundredths.Tie as tie
 
@@ -26,35 +28,32 @@ mul-whole c = search (needs, hours-fit)
 returns : tie.Need-returns
 returns c = search (needs, hours-whole)
 
-sub-read-decimals : tie.Need-sub-read-decimals
-sub-read-decimals c = search needs
+sub-decimals : tie.Need-sub-decimals
+sub-decimals c = search needs
 
-part-read-decimals-start : tie.Need-part-read-decimals-start
-part-read-decimals-start c = search needs
+part-decimals-start : tie.Need-part-decimals-start
+part-decimals-start c = search needs
 
-part-read-decimals-end : tie.Need-part-read-decimals-end
-part-read-decimals-end c = search needs
+part-decimals-end : tie.Need-part-decimals-end
+part-decimals-end c = search needs
 
-read-decimals-requires : tie.Need-read-decimals-requires
-read-decimals-requires c κs = search needs
-
-enum-told-2 : tie.Need-enum-told-2
-enum-told-2 c = search needs
-
-enum-known-decimals : tie.Need-enum-known-decimals
-enum-known-decimals c = search needs
-
-add-t16 : tie.Need-add-t16
-add-t16 c = search (needs, sum-fits)
+is-decimals-requires : tie.Need-is-decimals-requires
+is-decimals-requires c κs = search needs
 
 returns-2 : tie.Need-returns-2
-returns-2 c = search (needs, hours-missing)
+returns-2 c = search (needs, hours-broken, rest-is, c .before .before .before .if1 .left)
+
+decimals-of-requires : tie.Need-decimals-of-requires
+decimals-of-requires c κs = search (needs, told, not-false)
+
+add-t15 : tie.Need-add-t15
+add-t15 c = search (needs, sum-fits, told, not-false)
 
 returns-3 : tie.Need-returns-3
-returns-3 c = search (needs, hours-broken, rest-is, c .before .before .before .before .if1 .left)
+returns-3 c = search (needs, hours-missing)
 
 returns-4 : tie.Need-returns-4
-returns-4 c = search (needs, hours-decimal, rest-is, c .before .before .before .before .before .if1 .left)
+returns-4 c = search (needs, hours-decimal, rest-is, c .before .before .before .before .if1 .left)
 
 pub read-hundredths-spec : {M : Type 1} → statement M
 read-hundredths-spec =
@@ -67,13 +66,12 @@ read-hundredths-spec =
     enum-known-hours
     mul-whole
     returns
-    sub-read-decimals
-    part-read-decimals-start
-    part-read-decimals-end
-    read-decimals-requires
-    enum-told-2
-    enum-known-decimals
-    add-t16
+    sub-decimals
+    part-decimals-start
+    part-decimals-end
+    is-decimals-requires
     returns-2
+    decimals-of-requires
+    add-t15
     returns-3
     returns-4)
