@@ -4,6 +4,7 @@ from collections import namedtuple
 import sheets
 from measuring import balls_agree, doubles_agree, width
 from reckoning.chain import depth
+from restarts import exact
 
 FEW_MOVES = 3                           # with fewer moves out of a state than this a sheet is sparse
 MOST_OVER_DOUBLES = {"dense": 1.6, "sparse": 2.4}
@@ -69,10 +70,19 @@ def of_answers(rows):
     yield Bar(f"no interval wider than {MOST_WIDTH} billionths", f"{widest}", widest <= MOST_WIDTH, True)
 
 
-def bars(rows, others, footprints):
-    """All bars; `others` are rows of other shapes, where the whole job is not held against its until."""
+def of_restarts(asked):
+    """That next moves are exact, and that restarts change no until."""
+    (*nexts, plain, restarted) = asked
+    right = all(map(exact, nexts))
+    yield Bar("ends of the next move exact, rounded outwards", "yes" if right else "no", right, True)
+    same = plain.ends == restarted.ends
+    yield Bar("an until's ends the same with restarts as without", "yes" if same else "no", same, True)
+
+
+def bars(rows, others, footprints, asked):
+    """All bars; `others` are rows of other shapes, where the whole job is not held against its until, `asked` those with restarts."""
     every = rows + others
-    return [*over_doubles(every), *under_balls(every), *over_untils(rows), *of_footprints(footprints), *of_answers(every)]
+    return [*over_doubles(every), *under_balls(every), *over_untils(rows), *of_footprints(footprints), *of_answers(every), *of_restarts(asked)]
 
 
 def told(bar):

@@ -12,6 +12,7 @@ SIZES = [(64, 7), (256, 7), (MOST_STATES, 7)]               # states, and moves 
 SHAPES = [(MOST_STATES, 2), (MOST_STATES, 4), (256, 14), (64, 28)]
 DEAD_OF = 32                            # one state of so many is dead
 NESTED = MOST_LEVELS - 1                # untils, one in the other, of the deepest formula
+RESTART_RATE = RATE_HOURS // 10         # of the move to the own state, in a sheet with restarts
 
 # A sheet in a folder: its number of states and of moves.
 Sheet = namedtuple("Sheet", "folder states moves")
@@ -31,11 +32,16 @@ def row(draw, state, states, per_state):
     return [(state, to, rate) for to, rate in zip(targets, parts(draw, exit_rate, count))]
 
 
-def write(folder, states, per_state):
-    """Writes moves.txt and labels.txt of a sheet with so many states and about so many moves out of each."""
+def write(folder, states, per_state, restarts=False):
+    """Writes moves.txt and labels.txt of a sheet with so many states and about so many moves out of each.
+
+    With restarts the same sheet has a move to the own state at each state besides.
+    """
     draw = random.Random(1000 * states + per_state)
     dead = set(draw.sample(range(1, states), max(1, states // DEAD_OF)))
     moves = [move for state in range(states) for move in row(draw, state, states, per_state)]
+    if restarts:
+        moves = sorted(moves + [(state, state, RESTART_RATE) for state in range(states)])
     assert len(moves) <= MOST_MOVES
     marks = [(state not in dead, state in dead) for state in range(states)]
     folder.mkdir(parents=True, exist_ok=True)
@@ -47,6 +53,11 @@ def write(folder, states, per_state):
 def until(hours):
     """The question of the bench: does a state come to a dead one within so many hours? No state is undecided below it."""
     return f"P >= 500000000 U {hours} tt dead"
+
+
+def next_move():
+    """Does the next move lead to a dead state? No state is undecided below it."""
+    return "P >= 500000000 X dead"
 
 
 def three_untils(hours):

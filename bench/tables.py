@@ -4,6 +4,7 @@ from measuring import balls_agree, doubles_agree, width
 
 HEADS = ["states", "moves", "depth", "doubles", "Arb", "Arb dot", "engine", "again", "reading", "job",
          "eng/dbl", "Arb/eng", "dot/eng", "job/until", "3 untils", "widest", "dbl in", "Arb in"]
+RESTART_HEADS = ["formula", "states", "moves", "reading", "job", "job - reading", "ns for each move"]
 GROWTH_HEADS = ["states", "moves", "depth", "doubles", "Arb", "engine", "whole job"]
 QUIET = 0.1                             # two ways to one time part by at most this share on a quiet machine
 WORDS = {True: "yes", False: "NO", None: "-"}
@@ -74,6 +75,18 @@ def fit_lines(rows, others):
     return "\n".join([fit_line("doubles", rows, others, "depth", depth), fit_line("engine", rows, others, "depth", depth),
                       f"Steps that the engine makes, up to the last whose weight counts: {told}.",
                       fit_line("engine", rows, others, "steps", steps)])
+
+
+def restart_line(asked):
+    """A row of the table of next moves and restarts."""
+    own = asked.job - asked.reading
+    times = map(milliseconds, (asked.reading, asked.job, own))
+    return [asked.formula, str(asked.sheet.states), str(asked.sheet.moves), *times, f"{own / asked.sheet.moves:.2f}"]
+
+
+def restart_table(rows):
+    """Times of the next move and of an until, on a sheet and on the same sheet with restarts."""
+    return laid_out(RESTART_HEADS, map(restart_line, rows))
 
 
 def footprint_line(found):

@@ -83,8 +83,8 @@ def small():
                  FORMULA.decode().rstrip("\n"), str)
 
 
-def gun_string():
-    """A perforating gun string: collar locator and gamma tool give the depth, and a shock can take both."""
+def gun_parts():
+    """The states, moves and labels of a perforating gun string: collar locator and gamma tool give the depth, and a shock can take both."""
     good, drifting, failed, up, down = "good", "drifting", "failed", "up", "down"
     parts = {
         "collar": Part((good, failed), {(good, failed): 400}),
@@ -99,7 +99,19 @@ def gun_string():
         "power": lambda s: s.power == up,
         "lost": lambda s: s.collar == failed and s.gamma != good,
     }
-    return Sheet(*joined(parts, [(shock, 250)]), labels, "P <= 10000000 U 8.25 power lost", told_parts)
+    return *joined(parts, [(shock, 250)]), labels
+
+
+def gun_string():
+    """The gun string, and whether depth is lost in time."""
+    return Sheet(*gun_parts(), "P <= 10000000 U 8.25 power lost", told_parts)
+
+
+def first_fault():
+    """The gun string whose processor is restarted now and then while power is up, each time a move to the own state."""
+    states, moves, labels = gun_parts()
+    restarts = {(state, state): 1_300 for state in states if labels["power"](state)}
+    return Sheet(states, {**moves, **restarts}, labels, "P <= 120000000 X ! collar", told_parts)
 
 
 def redundant_string():
@@ -197,6 +209,7 @@ def walk(depth, left, formula):
 SHEETS = {
     "small": small(),
     "gun-string": gun_string(),
+    "first-fault": first_fault(),
     "redundant-string": redundant_string(),
     "tandem-2": tandem(2, "P < 50000000 U 2 tt full"),
     "tandem-5": tandem(5, "P >= 900000000 U 2 ! full P < 7500000 U 2 tt full"),

@@ -32,9 +32,10 @@ enum sebdyqul_verdict { SEBDYQUL_NO = 0, SEBDYQUL_YES = 1, SEBDYQUL_UNDECIDED = 
 /* Checks a job: a moves text, a labels text and a formula, as bytes.
  *
  * Answers 0 where the job is accepted. Then `lower`, `upper` (billionths) and `verdicts` hold the report in their first n elements, `*depth`
- * is the depth that its lines show, and the named lengths of `words`, `vectors` and `marks` hold 0; nothing beyond them has changed.
+ * is the depth that its lines show (0 where the outermost node is no until), and the named lengths of `words`, `vectors` and `marks` hold 0;
+ * nothing beyond them has changed.
  *
- * Answers 1 to 15, the number of the refusal, otherwise. Then nothing has changed. */
+ * Answers with the number of the refusal, 1 to 15 but never 7, otherwise. Then nothing has changed. */
 uint64_t sebdyqul_check(
     const uint8_t *moves, size_t moves_length,
     const uint8_t *labels, size_t labels_length,

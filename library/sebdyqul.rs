@@ -28,9 +28,10 @@ pub struct Lent<'a> {
 /// How a job ended.
 #[derive(Clone, Copy, Debug, PartialEq, Eq)]
 pub enum Answer {
-    /// The report is in the first n elements of `lower`, `upper` and `verdicts`; its lines show this depth.
+    /// The report is in the first n elements of `lower`, `upper` and `verdicts`; its lines show this depth, 0 where the outermost node
+    /// is no until.
     Accepted { depth: u64 },
-    /// The number of the refusal, 1 to 15. What was lent is as it was.
+    /// The number of the refusal, 1 to 15 but never 7. What was lent is as it was.
     Refused(u64),
 }
 

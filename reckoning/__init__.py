@@ -1,1 +1,1 @@
-"""The second reckoning: document 01 in exact big fractions, to judge what the checker prints."""
+"""The second reckoning: documents 01 and 02 in exact big fractions, to judge what the checker prints."""

@@ -42,8 +42,7 @@ def boxes(rules, node):
         limit(rules, len(lefts) * len(rights))
         return {tuple(map(both_all, left, right)) for left in lefts for right in rights}
     if isinstance(node, f.P):
-        return {tuple(verdicts(node, ends) for ends in rules.ends(node.path, first, second))
-                for first, second in operand_ways(rules, node)}
+        return {tuple(verdicts(node, ends) for ends in rules.ends(node.path, *way)) for way in operand_ways(rules, node)}
     return {tuple(frozenset((verdict,)) for verdict in marks_of(rules, node))}
 
 
@@ -56,10 +55,10 @@ def both_all(lefts, rights):
 
 
 def operand_ways(rules, node):
-    """Every pair of verdict vectors that the operands of a `P` can have."""
-    firsts, seconds = ways(rules, node.path.first), ways(rules, node.path.second)
-    limit(rules, len(firsts) * len(seconds))
-    return list(product(firsts, seconds))
+    """For a `P` every choice of a verdict vector for each operand."""
+    found = [ways(rules, operand) for operand in f.operands(node)]
+    limit(rules, prod(map(len, found)))
+    return list(product(*found))
 
 
 def ways(rules, node):
@@ -87,4 +86,4 @@ def near(rules, node, below=0, above=0):
 
 def near_operands(rules, node, below=0, above=0):
     """One way of the operands of a `P`."""
-    return near(rules, node.path.first, below, above), near(rules, node.path.second, below, above)
+    return tuple(near(rules, operand, below, above) for operand in f.operands(node))

@@ -1,4 +1,4 @@
-"""What the chain means: exit rates, q, load, depth, and a phase's step values and quotients.
+"""What the chain means: exit rates, q, load, depth, a phase's step values and quotients, and the chance of the next move.
 
 Written as the paper has it, in fractions. `bracket.py` reckons the same faster.
 """
@@ -30,12 +30,20 @@ class Chain:
 
     @cached_property
     def exits(self):
-        """The exit rate of each state."""
+        """The exit rate of each state for until, which leaves moves to the own state out."""
         return [sum(rate for _, rate in row) for row in self.rows]
 
     @cached_property
+    def totals(self):
+        """The exit rate of each state for `X`, and what 9 tests: moves to the own state count too."""
+        totals = [0] * self.states
+        for (source, _), rate in self.rates.items():
+            totals[source] += rate
+        return totals
+
+    @cached_property
     def q(self):
-        """The uniformisation rate: the greatest exit rate."""
+        """The uniformisation rate: the greatest exit rate for until."""
         return max(self.exits)
 
     def load(self, hundredths):
@@ -103,3 +111,11 @@ def quotients(chain, phase, last):
         tops = [top + weight * value for top, value in zip(tops, values)]
         total += weight
     return [top / total for top in tops]
+
+
+def next_chances(chain, holds):
+    """The probability of `X` at each state: the rates into states where the operand holds over the exit rate; 0 where that is 0."""
+    into = [0] * chain.states
+    for (source, target), rate in chain.rates.items():
+        into[source] += rate if holds[target] else 0
+    return [Fraction(rate, total) if total else Fraction(0) for rate, total in zip(into, chain.totals)]

@@ -2,9 +2,10 @@
 
 from collections import namedtuple
 
-from .bracket import bracket
-from .chain import depth
-from .limits import BILLION, WIDTH_FACTOR
+from .bracket import bracket, ceil_billionths, floor_billionths
+from .chain import depth, next_chances
+from .formula import Next
+from .limits import BILLION, NEXT_DEPTH, NEXT_WIDTH, WIDTH_FACTOR
 from .verdict import COMPARISON, NO, UNDECIDED, YES, negate
 
 # All pairs with lower from `lower[0]` to `lower[1]`, upper from `upper[0]` to `upper[1]`, and
@@ -23,11 +24,13 @@ class Rules:
         self.known = {}
 
     def depth(self, path):
-        return depth(self.chain.load(path.hundredths))
+        return NEXT_DEPTH if isinstance(path, Next) else depth(self.chain.load(path.hundredths))
 
-    def width(self, path, first, second):
+    def width(self, path, *operands):
         """The most that two ends may differ; None where an operand state is undecided."""
-        return None if UNDECIDED in first + second else WIDTH_FACTOR * self.depth(path)
+        if any(UNDECIDED in verdicts for verdicts in operands):
+            return None
+        return NEXT_WIDTH if isinstance(path, Next) else WIDTH_FACTOR * self.depth(path)
 
     def bounds(self, path, first, second):
         """The bracket of a reading; where the second operand holds the first does not matter."""
@@ -37,8 +40,19 @@ class Rules:
             self.known[key] = bracket(self.chain, alone, second, path.hundredths)
         return self.known[key]
 
-    def ends(self, path, first, second):
+    def ends(self, path, *operands):
         """The Ends of each state, where the operands have these verdicts."""
+        return (self.next_ends if isinstance(path, Next) else self.until_ends)(path, *operands)
+
+    def next_ends(self, path, operand):
+        """Both ends of `X` are determined: its fraction rounded down for the one reading, up for the other."""
+        lows, highs = (next_chances(self.chain, reading(operand, taken)) for taken in ((YES,), (YES, UNDECIDED)))
+        downs = [floor_billionths(low.numerator, low.denominator) for low in lows]
+        ups = [ceil_billionths(high.numerator, high.denominator) for high in highs]
+        width = self.width(path, operand)
+        return [Ends((down, down), (up, up), width) for down, up in zip(downs, ups)]
+
+    def until_ends(self, path, first, second):
         lows = self.bounds(path, reading(first, (YES,)), reading(second, (YES,)))
         highs = self.bounds(path, reading(first, (YES, UNDECIDED)), reading(second, (YES, UNDECIDED)))
         slack = WIDTH_FACTOR * self.depth(path)

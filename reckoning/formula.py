@@ -36,12 +36,26 @@ class Until:
     first: object
     second: object
 
+    @property
+    def operands(self):
+        return self.first, self.second
+
+
+@dataclass(frozen=True)
+class Next:
+    """The other path formula, `X`: what holds after the next move."""
+    operand: object
+
+    @property
+    def operands(self):
+        return (self.operand,)
+
 
 @dataclass(frozen=True)
 class P:
     comparison: bytes
     threshold: int
-    path: Until
+    path: object
 
 
 class Broken(Exception):
@@ -97,7 +111,12 @@ def bounded(tokens, at):
 
 
 def path_formula(tokens, at):
-    if token(tokens, at) != b"U":
+    """`X` and a state formula, or `U`, hours and two of them."""
+    kind = token(tokens, at)
+    if kind == b"X":
+        operand, at = state_formula(tokens, at + 1)
+        return Next(operand), at
+    if kind != b"U":
         raise Broken
     hundredths = hours(tokens, at + 1)
     first, at = state_formula(tokens, at + 2)
@@ -131,10 +150,15 @@ def spelled(tree):
     if isinstance(tree, (Tt, Label)):
         return TRUE_WORD if isinstance(tree, Tt) else tree.name
     if isinstance(tree, P):
-        head = b"P %s %d U %s" % (tree.comparison, tree.threshold, hours_text(tree.path.hundredths))
+        head = b"P %s %d %s" % (tree.comparison, tree.threshold, path_head(tree.path))
     else:
         head = b"!" if isinstance(tree, Not) else b"&"
     return b" ".join([head, *map(spelled, operands(tree))])
+
+
+def path_head(path):
+    """What stands before the operands of a path formula."""
+    return b"U " + hours_text(path.hundredths) if isinstance(path, Until) else b"X"
 
 
 def operands(tree):
@@ -144,7 +168,7 @@ def operands(tree):
     if isinstance(tree, And):
         return (tree.left, tree.right)
     if isinstance(tree, P):
-        return (tree.path.first, tree.path.second)
+        return tree.path.operands
     return ()
 
 
@@ -169,3 +193,8 @@ def levels(tree):
 def bounds(tree):
     """Every `P` of the tree; no other is above the first."""
     return [node for node in nodes(tree) if isinstance(node, P)]
+
+
+def untils(tree):
+    """Every until of the tree, outer ones first."""
+    return [node.path for node in bounds(tree) if isinstance(node.path, Until)]

@@ -1,4 +1,4 @@
-"""Whether the rules of document 01 allow a printed answer, and what they allow."""
+"""Whether the rules of documents 01 and 02 allow a printed answer, and what they allow."""
 
 from collections import namedtuple
 

@@ -51,6 +51,10 @@ SPARE_STEPS = 40
 # "at most 4 × D from each of them"; "the two ends differ by at most 4 × D"
 WIDTH_FACTOR = 4
 
+# Of `X`: "with a decided operand the width is at most 1, which here takes the place of 4 × D"; "depth is 0"
+NEXT_WIDTH = 1
+NEXT_DEPTH = 0
+
 # "vector words (64 bits) of 10 × n + 512"
 VECTOR_PLACES = 10
 VECTOR_SPARE = 512

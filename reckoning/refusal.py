@@ -85,20 +85,14 @@ def unknown_state(job):
     return any(source >= count or target >= count for source, target, _ in job.moves)
 
 
-def own_state(job):
-    return any(source == target for source, target, _ in job.moves)
-
-
 def not_rising(job):
     pairs = [move[:2] for move in job.moves]
     return any(before >= after for before, after in zip(pairs, pairs[1:]))
 
 
 def wrong_rate(job):
-    totals = Counter()
-    for source, _, rate in job.moves:
-        totals[source] += rate
-    return any(rate == 0 for _, _, rate in job.moves) or any(t > MOST_RATE for t in totals.values())
+    """The sum has the moves to the own state in it."""
+    return any(rate == 0 for _, _, rate in job.moves) or max(job.chain.totals) > MOST_RATE
 
 
 def broken_formula(job):
@@ -114,11 +108,13 @@ def unknown_name(job):
 
 
 def large_number(job):
-    return any(p.threshold > MOST_THRESHOLD or p.path.hundredths > MOST_HUNDREDTHS for p in f.bounds(job.tree))
+    return (any(p.threshold > MOST_THRESHOLD for p in f.bounds(job.tree))
+            or any(until.hundredths > MOST_HUNDREDTHS for until in f.untils(job.tree)))
 
 
 def large_load(job):
-    return any(job.chain.q * p.path.hundredths > MOST_RATE_HUNDREDTHS for p in f.bounds(job.tree))
+    """Moves to the own state are not in q."""
+    return any(job.chain.q * until.hundredths > MOST_RATE_HUNDREDTHS for until in f.untils(job.tree))
 
 
 def lengths(states, moves, nodes):
@@ -135,7 +131,7 @@ def short_buffer(job):
     return job.lent is not None and any(has < need for has, need in zip(job.lent, needed(job)))
 
 
-# Document 01's table, in the order of its tests.
+# Document 01's table, in the order of its tests. "7 is never given again".
 TESTS = (
     (1, empty_or_long),
     (2, broken_line),
@@ -143,7 +139,6 @@ TESTS = (
     (4, wrong_states),
     (5, many_moves),
     (6, unknown_state),
-    (7, own_state),
     (8, not_rising),
     (9, wrong_rate),
     (10, broken_formula),
@@ -153,6 +148,8 @@ TESTS = (
     (14, large_load),
     (15, short_buffer),
 )
+SHORT = 15
+BY_TEXTS = frozenset(number for number, _ in TESTS if number != SHORT)      # the numbers that three texts alone can be refused with
 
 
 def refusal(moves, labels, formula, lent=None):

@@ -1,7 +1,7 @@
 """Has the checker of proofs compute the definitions on concrete jobs.
 
 It writes a scratch crate outside the repository, with one equation by computation for each job, and checks it: that the job is turned back with
-its number, or accepted with its q and depth. `python3 -m tests.definitions` tries every vector of ../shared/vectors that is small
+its number, or accepted with its formula, q and depth. `python3 -m tests.definitions` tries every vector of ../shared/vectors that is small
 enough (`--bytes N`: three texts of at most N bytes together, 2,000 if not given).
 """
 import argparse
@@ -11,6 +11,7 @@ import subprocess
 import sys
 import tempfile
 
+from reckoning import formula as f
 from reckoning.limits import MOST_MOVES, MOST_NODES, MOST_STATES
 from reckoning.refusal import Lent
 from reckoning.tests.vectors import MISSING, cases, texts_of
@@ -21,6 +22,7 @@ use mathlib.Core.Path.{{_≡_, refl}}
 use Prim.Native.Nat.{{ℕ}}
 use mathlib.Core.Option.{{Option, some, none}}
 use Rattle.csl.specs.Text.{{bytes}}
+use Rattle.csl.specs.Formula.{{always, label, negated, both, chance, until, nextMove, Less, AtMost, AtLeast, More}}
 use Rattle.csl.specs.Lent.{{Buffers, needed}}
 use Rattle.csl.specs.Chain.{{topRate}}
 use Rattle.csl.specs.Report.{{depthOf}}
@@ -37,6 +39,26 @@ def quoted(text):
     return '"' + "".join(chr(b) if 32 <= b < 127 and b not in b'"\\' else f"\\u{{{b:x}}}" for b in text) + '"'
 
 
+COMPARISONS = {b"<": "Less", b"<=": "AtMost", b">=": "AtLeast", b">": "More"}
+
+
+def term(tree):
+    """A formula as the definitions have it."""
+    if isinstance(tree, f.Tt):
+        return "always"
+    if isinstance(tree, f.Label):
+        return f"(label (bytes {quoted(tree.name)}))"
+    below = " ".join(map(term, f.operands(tree)))
+    if isinstance(tree, f.P):
+        return f"(chance {COMPARISONS[tree.comparison]} {tree.threshold} ({path_word(tree.path)} {below}))"
+    return f"({'negated' if isinstance(tree, f.Not) else 'both'} {below})"
+
+
+def path_word(path):
+    """A path formula without its operands."""
+    return f"until {path.hundredths}" if isinstance(path, f.Until) else "nextMove"
+
+
 def buffers(lent):
     """The lent lengths as a record; enough for every job where none are given."""
     if lent is None:
@@ -45,7 +67,7 @@ def buffers(lent):
 
 
 def equation(number, job):
-    """The equations for one job, a dict with the three texts, `refused` or `q` and `depth`, and perhaps `lent`."""
+    """The equations for one job, a dict with the three texts, `refused` or any of `q` and `depth`, and perhaps `lent`."""
     texts = "; ".join(f"{name} = bytes {quoted(job[name])}" for name in ("moves", "labels", "formula"))
     lines = [f"abbrev job{number} : Job", f"job{number} = record {{ {texts} }}", ""]
 
@@ -54,6 +76,8 @@ def equation(number, job):
 
     answer = f"some {job['refused']}" if "refused" in job else "none"
     claim("refusal-of-", f"refusal job{number} {buffers(job.get('lent'))} ≡ {answer}")
+    if "refused" not in job:
+        claim("formula-of-", f"jobFormula job{number} ≡ {term(f.read_formula(job['formula']))}")
     if "q" in job:
         claim("rate-of-", f"topRate (jobChain job{number}) ≡ {job['q']}")
     if "depth" in job:

@@ -19,9 +19,9 @@ def states(count):
 
 
 def moves(count):
-    """So many moves, among as few states as have room for one more than the limit."""
-    n = next(n for n in range(2, MOST_STATES) if n * (n - 1) > MOST_MOVES)
-    pairs = [(a, b, 1) for a in range(n) for b in range(n) if a != b]
+    """So many moves, those to the own state among them, among as few states as have room for one more than the limit."""
+    n = next(n for n in range(2, MOST_STATES) if n * n > MOST_MOVES)
+    pairs = [(a, b, 1) for a in range(n) for b in range(n)]
     return moves_text(pairs[:count]), labels_text([], [[]] * n), b"tt\n"
 
 
@@ -54,6 +54,16 @@ def rates(total):
     return moves_text([(0, 1, half), (0, 2, total - half)]), labels_text([], [[]] * 3), b"tt\n"
 
 
+def restarts(total):
+    """A move to the own state and one to another, whose rates add up to so much."""
+    return moves_text([(0, 0, total - 500), (0, 1, 500)]), LABELS, until(MOST_HUNDREDTHS)
+
+
+def load_beside_restarts(hundredths):
+    """A move to the own state as fast as the one to another, which alone counts in q, and an until over so many hundredths of an hour."""
+    return moves_text([(0, 0, MOST_RATE // 2), (0, 1, MOST_RATE // 2), (1, 1, MOST_RATE)]), LABELS, until(hundredths)
+
+
 def load(rate, hundredths):
     """A greatest exit rate, and an until over so many hundredths of an hour."""
     return moves_text([(0, 1, rate)]), LABELS, until(hundredths)
@@ -66,6 +76,14 @@ def hours(typed):
 
 def threshold(number):
     return MOVES, LABELS, until(HOUR, threshold=number)
+
+
+def next_threshold(number):
+    return small(b"P < %d X dead" % number)
+
+
+def next_levels(count):
+    return small(b"P < 1 X " * (count - 1) + b"up")
 
 
 def formula_bytes(count):
@@ -115,11 +133,16 @@ def pairs():
         "decimals": (hours(b"8.25"), hours(b"8.125")),
         "the last decimal": (hours(b"8.05"), hours(b"8.50")),
         "threshold": about(threshold, BILLION),
+        "threshold of a next move": about(next_threshold, BILLION),
+        "levels of next moves": about(next_levels, MOST_LEVELS),
+        "operands of a next move": (small(b"P < 1 X dead"), small(b"P < 1 X dead up")),
+        "rates with a restart": about(restarts, MOST_RATE),
+        "load beside a restart": about(load_beside_restarts, most_hundredths(MOST_RATE // 2)),
         "digits in the formula": (threshold(BILLION), threshold(10**FORMULA_DIGITS)),
         "digits in moves": (typed(b"0,1," + b"9" * SHEET_DIGITS), typed(b"0,1,1" + b"0" * SHEET_DIGITS)),
         "formula bytes": about(formula_bytes, FORMULA_BYTES),
         "bytes of labels": about(label_bytes, SHEET_BYTES),
         "bytes of moves": about(move_bytes, SHEET_BYTES),
-        "another state": (typed(b"0,1,1"), typed(b"0,0,1")),
+        "a restart again": (typed(b"0,0,1\n0,1,1"), typed(b"0,0,1\n0,0,1")),
         "no state": ((NO_MOVES, b"state\n0\n", b"tt\n"), (NO_MOVES, b"state\n", b"tt\n")),
     }

@@ -1,11 +1,12 @@
 """A sheet reckoned in doubles by plain uniformisation: short, with no bounds on its error.
 
-It shares with `reckoning` the units and the reader of formulas, and nothing of what is reckoned. The texts are known to be good.
+It shares with `reckoning` the units and the reader of formulas, and nothing of what is reckoned. The texts are known to be good. A move to
+the own state is one like others here: an until's chance is the same with a greater exit rate, as long as the load stays small.
 """
 from math import exp
 from operator import ge, gt, le, lt
 
-from reckoning.formula import And, Label, Not, P, bounds, operands, read_formula
+from reckoning.formula import And, Label, Next, Not, P, bounds, operands, read_formula
 from reckoning.limits import BILLION, HOUR, RATE_HOURS
 
 NEGLIGIBLE = 1e-13          # of the weights, left out at the end
@@ -25,7 +26,7 @@ class Floats:
             self.rows[source].append((target, rate / RATE_HOURS))
         self.exits = [sum(rate for _, rate in row) for row in self.rows]
         self.tree = read_formula(formula)
-        self.outermost_until = bounds(self.tree)[0]
+        self.outermost = bounds(self.tree)[0]
 
     def holds(self, node):
         """Whether a node holds, at each state."""
@@ -40,7 +41,13 @@ class Floats:
 
     def chance(self, node):
         """The probability of a `P`, at each state."""
-        return self.until(node.path.hundredths / HOUR, *map(self.holds, operands(node)))
+        below = map(self.holds, operands(node))
+        return self.next_move(*below) if isinstance(node.path, Next) else self.until(node.path.hundredths / HOUR, *below)
+
+    def next_move(self, holds):
+        """The probability of an `X` at each state."""
+        into = [sum(rate for target, rate in row if holds[target]) for row in self.rows]
+        return [rate / out if out else 0.0 for rate, out in zip(into, self.exits)]
 
     def until(self, hours, first, second):
         """The probability of an until at each state."""

@@ -2,15 +2,17 @@
 
 A job is a tuple of the three texts (moves, labels, formula) as bytes.
 """
-from reckoning.bracket import bracket
-from reckoning.chain import Chain
+from math import ceil, floor
+
+from reckoning.bracket import Bounds, bracket
+from reckoning.chain import Chain, next_chances
 from reckoning.formula import COMPARISONS, hours_text
 from reckoning.limits import BILLION, HOUR, MOST_LETTERS, MOST_LOAD, MOST_RATE, RATE_HUNDREDTHS, most_hundredths
 from reckoning.sheets import labels_text, moves_text
 
 NAMES = [b"up", b"dead", b"power", b"gamma", b"locator", b"gun", b"wet", b"hot", b"t", b"ta", b"tta", b"s", b"stat", b"states",
          b"abcdefghijklmnopqrstuvwxyz"[:MOST_LETTERS]]
-TELLING = b"0123456789,.\n aPU!&tx<=>z/:`{+-\x1f\r\t\x00\x8a\xff"    # bytes that mean something, and those just beside them
+TELLING = b"0123456789,.\n aPUX!&tx<=>z/:`{+-\x1f\r\t\x00\x8a\xff"    # bytes that mean something, and those just beside them
 
 
 class Sheet:
@@ -26,13 +28,14 @@ class Sheet:
         self.labels_text = labels_text(self.names, self.rows)
 
     def random_moves(self, rng):
+        """Moves of one scale; some sheets have moves to the own state, others none."""
         scale = rng.choice([1, 50, 1_000, 1_000_000, 8_000_000])
-        dense, least = rng.random(), rng.choice([1, 1, 1, scale])
+        dense, own, least = rng.random(), rng.choice([0, 0.5, 1]), rng.choice([1, 1, 1, scale])
         moves = []
         for a in range(self.states):
             left = MOST_RATE
             for b in range(self.states):
-                if a != b and rng.random() < dense and left:
+                if rng.random() < (own if a == b else dense) and left:
                     rate = min(left, rng.randint(least, scale))
                     left -= rate
                     moves.append((a, b, rate))
@@ -49,7 +52,7 @@ class Sheet:
 
 def random_formula(rng, sheet, levels, most_load):
     """A state formula as tokens, at most so many levels deep."""
-    kind = rng.choice("tlll!&PPPP") if levels > 1 else rng.choice("tlll")
+    kind = rng.choice("tlll!&UUUUXX") if levels > 1 else rng.choice("tlll")
     if kind == "t":
         return [b"tt"]
     if kind == "l":
@@ -57,35 +60,57 @@ def random_formula(rng, sheet, levels, most_load):
     first = random_formula(rng, sheet, levels - 1, most_load)
     if kind == "!":
         return [b"!", *first]
+    if kind == "X":
+        return [*random_bound(rng, next_bounds(rng, sheet, rng.choice(sheet.names))), b"X", *first]
     second = random_formula(rng, sheet, levels - 1, most_load)
     if kind == "&":
         return [b"&", *first, *second]
     hundredths = sheet.hundredths(rng, most_load)
-    threshold = rng.choice([0, 1, BILLION, rng.randint(0, BILLION), near(rng, sheet, hundredths)])
-    return [b"P", rng.choice(COMPARISONS), b"%d" % threshold, b"U", hours_text(hundredths), *first, *second]
-
-
-def near(rng, sheet, hundredths):
-    """A threshold that lies close to some until's probability, so that verdicts come out undecided."""
-    first, second = (sheet.marks(rng.choice(sheet.names)) for _ in range(2))
-    bounds = rng.choice(bracket(sheet.chain, first, second, hundredths))
-    return max(0, min(BILLION, bounds.down + rng.randint(-1, 2)))
-
-
-def near_formula(rng, sheet, hundredths):
-    """An until whose threshold is one of the two whole billionths about its own probability at some state."""
     names = rng.choice(sheet.names), rng.choice(sheet.names)
-    bounds = rng.choice(bracket(sheet.chain, *map(sheet.marks, names), hundredths))
-    return [b"P", rng.choice(COMPARISONS), b"%d" % rng.choice(bounds), b"U", hours_text(hundredths), *names]
+    return [*random_bound(rng, until_bounds(rng, sheet, hundredths, *names)), b"U", hours_text(hundredths), *first, *second]
+
+
+def random_bound(rng, bounds):
+    """`P`, a comparison and a threshold: any, or one that lies close to some probability, so that verdicts come out undecided."""
+    near = max(0, min(BILLION, bounds.down + rng.randint(-1, 2)))
+    return [b"P", rng.choice(COMPARISONS), b"%d" % rng.choice([0, 1, BILLION, rng.randint(0, BILLION), near])]
+
+
+def until_bounds(rng, sheet, hundredths, first, second):
+    """The two whole billionths about the probability of an until over two labels, at some state."""
+    return rng.choice(bracket(sheet.chain, sheet.marks(first), sheet.marks(second), hundredths))
+
+
+def next_bounds(rng, sheet, name):
+    """The two whole billionths about the probability that a label holds after the next move, at some state."""
+    chance = BILLION * rng.choice(next_chances(sheet.chain, sheet.marks(name)))
+    return Bounds(floor(chance), ceil(chance))
+
+
+def near_formula(rng, sheet, most_load):
+    """A `P` over labels whose threshold is one of the two whole billionths about its own probability at some state."""
+    names = rng.choice(sheet.names), rng.choice(sheet.names)
+    if rng.random() < 0.3:
+        bounds, path = next_bounds(rng, sheet, names[0]), [b"X", names[0]]
+    else:
+        hundredths = sheet.hundredths(rng, most_load)
+        bounds, path = until_bounds(rng, sheet, hundredths, *names), [b"U", hours_text(hundredths), *names]
+    return [b"P", rng.choice(COMPARISONS), b"%d" % rng.choice(bounds), *path]
+
+
+def formula_about(rng, sheet, inner, most_load):
+    """A `P` with this operand."""
+    bound = [b"P", rng.choice(COMPARISONS), b"%d" % rng.randint(0, BILLION)]
+    if rng.random() < 0.3:
+        return [*bound, b"X", *inner]
+    other = [rng.choice(sheet.names)]
+    return [*bound, b"U", hours_text(sheet.hundredths(rng, most_load)), *(inner + other if rng.random() < 0.5 else other + inner)]
 
 
 def random_job(rng, most_states=6, levels=4, most_load=3):
     sheet = Sheet(rng, most_states)
     if rng.random() < 0.3:
-        inner = near_formula(rng, sheet, sheet.hundredths(rng, most_load))
-        outer = [b"P", rng.choice(COMPARISONS), b"%d" % rng.randint(0, BILLION), b"U", hours_text(sheet.hundredths(rng, most_load))]
-        other = [rng.choice(sheet.names)]
-        tokens = outer + (inner + other if rng.random() < 0.5 else other + inner)
+        tokens = formula_about(rng, sheet, near_formula(rng, sheet, most_load), most_load)
     else:
         tokens = random_formula(rng, sheet, levels, most_load)
     return sheet.moves_text, sheet.labels_text, b" ".join(tokens) + b"\n"

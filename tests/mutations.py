@@ -17,8 +17,9 @@ NUMBERS = [b"%d" % number for number in (
     MOST_RATE, MOST_RATE + 1, BILLION - 1, BILLION, BILLION + 1, 10**FORMULA_DIGITS - 1, 10**FORMULA_DIGITS)]
 HOURS = [*map(hours_text, (1, 50, 825, 850, MOST_HUNDREDTHS - 1, MOST_HUNDREDTHS + 1)), b"8.50", b"8.0", b"8.", b".5", b"00.5", b"8.125", b"8.2.5",
          b"9999999999.99", b"10000000000.5"]
-WORDS = [b"tt", b"state", b"up", b"dead", b"t", b"tta", b"abcdefghijkl", b"abcdefghijklm", b"", b"00", b"01", b"U", b"\xff"]
-OPERATORS = [b"! ", b"& tt ", b"& up ", b"P < 1 U 1 tt ", b"P >= 500000000 U %s up " % hours_text(MOST_HUNDREDTHS), b"P > 0 U 0 "]
+WORDS = [b"tt", b"state", b"up", b"dead", b"t", b"tta", b"abcdefghijkl", b"abcdefghijklm", b"", b"00", b"01", b"U", b"X", b"\xff"]
+OPERATORS = [b"! ", b"& tt ", b"& up ", b"P < 1 U 1 tt ", b"P >= 500000000 U %s up " % hours_text(MOST_HUNDREDTHS), b"P > 0 U 0 ", b"P < 1 X ",
+             b"P >= 333333334 X "]
 MOST_CHANGES = 4
 MOST_DIGITS = 20
 

@@ -5,7 +5,7 @@ import tempfile
 import unittest
 
 from reckoning.limits import HOUR, MOST_HUNDREDTHS, MOST_LEVELS, MOST_MOVES, MOST_RATE
-from reckoning.refusal import refusal
+from reckoning.refusal import BY_TEXTS, refusal
 from reckoning.report import refused
 from reckoning.sheets import LABELS, MOVES, REPORT_LINE
 from tests.edges import levels, load, moves, small, typed
@@ -16,7 +16,7 @@ SAMPLE = re.compile(r"^    \$ (\./sheetcheck \S+)\n((?:    .+\n)+)", re.MULTILIN
 DRAWN = re.compile(r"^    (tools/curve .*) --out (docs/\S+\.svg)$", re.MULTILINE)
 SAID = re.compile(r"sheetcheck: refused, since [a-z].*\.\n")
 
-# For each number that three texts can be refused with, the example that document 01 gives beside it.
+# For each number that three texts can be refused with, the example that document 01 gives beside it; 7 is never given.
 TURNED_BACK = {
     1: (MOVES, LABELS, b""),
     2: typed(b"0,1"),
@@ -24,7 +24,6 @@ TURNED_BACK = {
     4: (MOVES, b"state,up\n1,0\n", b"tt\n"),
     5: moves(MOST_MOVES + 1),
     6: typed(b"0,9,5"),
-    7: typed(b"0,0,5"),
     8: typed(b"1,0,5\n0,1,5"),
     9: typed(b"0,1,0"),
     10: small(b"& up"),
@@ -61,7 +60,8 @@ class Command(unittest.TestCase):
                 printed, said[number] = command_on(job)
                 self.assertEqual(printed, refused(number))
                 self.assertRegex(said[number], SAID)
-        self.assertEqual(len(set(said.values())), 14)
+        self.assertEqual(set(said), BY_TEXTS)
+        self.assertEqual(len(set(said.values())), len(said))
 
     def test_says_nothing_of_a_report(self):
         printed, said = command("examples/small")

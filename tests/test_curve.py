@@ -146,6 +146,16 @@ class Curve(unittest.TestCase):
             self.shows(picture, self.rows(folder, b"P >= 600000000 U %s tt P > 0 U 1 up dead\n", (100, 300), 50))
             self.assertIn("state 50", picture.words())
 
+    def test_next_move_within_an_until(self):
+        """Only the until's hours are replaced; restarts are among the moves."""
+        folder = EXAMPLES / "first-fault"
+        with tempfile.TemporaryDirectory() as copy:
+            moves, labels, _ = read_texts(folder)
+            put((moves, labels, b"P <= 10000000 U 8.25 power P > 300000000 X ! collar\n"), copy)
+            picture = self.drawn(copy, "8", "24.5", "48")
+            self.shows(picture, self.rows(folder, b"P <= 10000000 U %s power P > 300000000 X ! collar\n", (8, "24.5", 48), 0))
+            self.assertIn("P <= 10000000 U t power P > 300000000 X ! collar", picture.words())
+
     def test_one_point_and_flat_curves(self):
         with tempfile.TemporaryDirectory() as folder:
             put((MOVES, LABELS, b"P >= 0 U 0 up dead\n"), folder)
@@ -182,6 +192,19 @@ class NoPicture(unittest.TestCase):
             with self.subTest(formula), tempfile.TemporaryDirectory() as folder:
                 put((MOVES, LABELS, formula), folder)
                 self.refuses(said, folder, "1")
+
+    def test_next_move(self):
+        """`X` at the outermost place has no hours: wrong use, as wrong arguments are, whatever is asked within it or under `!`."""
+        for formula in (b"P <= 120000000 X ! collar\n", b"! P > 5 X power\n", b"P > 5 X P <= 10000000 U 8 power lost\n"):
+            with self.subTest(formula), tempfile.TemporaryDirectory() as folder:
+                moves, labels, _ = read_texts(EXAMPLES / "first-fault")
+                put((moves, labels, formula), folder)
+                out = Path(folder) / "curve.svg"
+                status, picture, told = curve(folder, "8", "--out", out)
+                self.assertEqual((status, picture), (2, ""))
+                self.assertIn("`X` has no hours", told)
+                self.assertFalse(out.exists())
+        self.assertEqual(curve(EXAMPLES / "first-fault", "8")[0], 2)
 
     def test_sheet_and_state(self):
         self.refuses("No such file", EXAMPLES / "none", "1")

@@ -43,6 +43,12 @@ class Narrow(unittest.TestCase):
         rng = random.Random(5)
         self.narrow(chain_job(rng) for _ in range(CHAINS))
 
+    def test_next_moves(self):
+        """With a decided operand the ends of `X` are at most 1 apart."""
+        rng = random.Random(8)
+        widths = [width for _ in range(MADE) for width in widths_of(next_job(rng))]
+        self.assertEqual(set(widths), {0, 1})
+
     def test_loads(self):
         rng = random.Random(6)
         whole = [(RATE_HOURS, hundredths) for hundredths in range(HOUR, most_hundredths(RATE_HOURS) + 1, HOUR)]
@@ -75,6 +81,13 @@ def made_job(rng):
     return sheet.moves_text, sheet.labels_text, until(rng, sheet.hundredths(rng), rng.choice(sheet.names), rng.choice(sheet.names))
 
 
+def next_job(rng):
+    """A random sheet with an `X` over one of its labels."""
+    sheet = Sheet(rng, 8)
+    formula = b"P %s %d X %s\n" % (rng.choice(COMPARISONS), rng.randint(0, BILLION), rng.choice(sheet.names))
+    return sheet.moves_text, sheet.labels_text, formula
+
+
 def line_job(states):
     """A line at full load, from its first state to its last."""
     moves = [(s, s + 1, MOST_RATE) for s in range(states - 1)]
@@ -97,8 +110,8 @@ def ends_text(states):
 def chain_job(rng):
     """A small stiff chain of some shape: rates of 1 beside rates near the greatest, operands drawn for each state."""
     states, top = rng.randint(2, 8), rng.choice([MOST_RATE, rng.randint(2, MOST_RATE), rng.randint(2, 1_000)])
-    rows = [row_of(rng, s, states, top) for s in range(states)]
-    exits = [sum(rate for _, rate in row) for row in rows]
+    rows = [row_of(rng, states, top) for _ in range(states)]
+    exits = [sum(rate for to, rate in row if to != s) for s, row in enumerate(rows)]
     most = most_hundredths(max(exits))
     hundredths = rng.choice([min(HOUR, most), most, rng.randint(1, most)])
     marks = [rng.choice([[0, 0], [1, 0], [1, 0], [1, 0], [0, 1]]) for _ in range(states)]
@@ -106,9 +119,9 @@ def chain_job(rng):
     return moves_text(moves), labels_text([b"first", b"second"], marks), until(rng, hundredths, b"first", b"second")
 
 
-def row_of(rng, state, states, top):
-    """Moves out of a state, their rates at most `top` together."""
-    targets = rng.sample([s for s in range(states) if s != state], rng.randint(0, min(4, states - 1)))
+def row_of(rng, states, top):
+    """Moves out of a state, perhaps one to itself among them, their rates at most `top` together."""
+    targets = rng.sample(range(states), rng.randint(0, min(4, states - 1)))
     left, row = top, []
     for to in targets:
         rate = rng.choice([1, rng.randint(1, max(1, left // 2)), max(1, left - 4)])

@@ -5,19 +5,21 @@ import subprocess
 import unittest
 
 from reckoning.judge import judge
-from reckoning.limits import BILLION, HOUR, MOST_HUNDREDTHS, MOST_LEVELS
+from reckoning.limits import BILLION, HOUR, MOST_HUNDREDTHS, MOST_LEVELS, MOST_RATE
+from reckoning.refusal import BY_TEXTS
 from reckoning.report import read_report, refused
-from reckoning.sheets import FAST_MOVES, FORMULA, FULL_MOVES, HOURS_8, LABELS, MOVES, NO_MOVES, REPORT, until
+from reckoning.sheets import FAST_MOVES, FORMULA, FULL_MOVES, HOURS_8, LABELS, MOVES, NO_MOVES, REPORT, REPORT_LINE, moves_text, until
 from reckoning.tests.vectors import MISSING, cases, texts_of
 from tests import edges
 from tests.agreement import refusal_number, tried
-from tests.jobs import damaged_job, random_job
+from tests.jobs import Sheet, damaged_job, random_job
 from tests.mutations import bent_job
 from tests.places import DEEP
 from tests.program import run
 
 DAMAGED = 3_000
 MADE = 300
+RESTARTS = 60
 STACK = 1 << 20             # bytes that the program gets by with
 READING_STACK = 1 << 18     # and the readers
 
@@ -34,7 +36,7 @@ class Program(unittest.TestCase):
         jobs = [make(rng) for _ in range(DAMAGED // 2) for make in (damaged_job, bent_job)]
         judged = [self.agrees(job) for job in jobs]
         self.assertGreater(sum(judged), 0.9 * DAMAGED)
-        self.assertLessEqual(set(range(1, 15)) - {5}, set(map(refusal_number, jobs)))
+        self.assertLessEqual(BY_TEXTS - {5}, set(map(refusal_number, jobs)))
 
     def test_made_jobs(self):
         rng = random.Random(2)
@@ -103,6 +105,52 @@ class Program(unittest.TestCase):
         for hours in (b"8760.01", b"9999999999.99"):
             self.assertEqual(run(asked(hours)), refused(13))
         self.assertEqual(run((FULL_MOVES, LABELS, until(HOUR + 1))), refused(14))
+
+    def test_next_move(self):
+        """`X` has the exact fraction, rounded outwards, at depth 0; it is 0 where no move leads on; and a move to the own state is a move."""
+        def printed(formula, *moves):
+            return run((moves_text(moves), LABELS, formula + b"\n"))
+        restart, dead = ((0, 0, 2), (0, 1, 1)), b"1,0,0,0,no\n"
+        third = b"P %s X dead"
+        self.assertEqual(printed(third % b">= 333333334", (0, 1, 500)), REPORT_LINE + b"0,1000000000,1000000000,0,yes\n" + dead)
+        self.assertEqual(printed(third % b">= 333333334"), REPORT_LINE + b"0,0,0,0,no\n" + dead)
+        self.assertEqual(printed(third % b">= 333333334", *restart), REPORT_LINE + b"0,333333333,333333334,0,undecided\n" + dead)
+        self.assertEqual(printed(third % b">= 1000000000", (1, 1, 3)), REPORT_LINE + b"0,0,0,0,no\n1,1000000000,1000000000,0,yes\n")
+        for bound, word in ((b">= 333333333", "yes"), (b"> 333333333", "undecided"), (b"> 333333334", "no"), (b"< 333333333", "no"),
+                            (b"<= 333333333", "undecided"), (b"< 333333334", "undecided"), (b"<= 333333334", "yes"), (b"< 333333335", "yes")):
+            self.assertEqual(read_report(printed(third % bound, *restart), 2)[0].verdict, word, bound)
+
+    def test_next_move_among_other_nodes(self):
+        """Within an until, about one, under `!` and within itself: an undecided `X` stays undecided."""
+        moves = moves_text([(0, 0, 2), (0, 1, 1)])
+        third = b"P >= 333333334 X dead"
+        for formula, ends in ((b"P >= 1 U 0 tt " + third, (0, BILLION, 40, "undecided")), (b"! " + third, (0, BILLION, 0, "undecided")),
+                              (b"P > 0 X " + third, (0, 666_666_667, 0, "undecided"))):
+            job = moves, LABELS, formula + b"\n"
+            self.assertEqual(tuple(read_report(run(job), 2)[0]), ends, formula)
+            self.assertEqual(judge(*job, run(job)), [])
+        about = MOVES, LABELS, b"P >= 1000000000 X P >= 3992000 U 8 up dead\n"
+        self.assertEqual(judge(*about, run(about)), [])
+
+    def test_refusals_of_the_next_move(self):
+        for formula in (b"P < 1 X dead up", b"P < 1 X", b"X dead", b"P < 1 X 8 dead", b"P < 1 U 8 X up dead"):
+            self.assertEqual(run(edges.small(formula)), refused(10), formula)
+        self.assertEqual(run(edges.small(b"P < 1000000001 X dead")), refused(13))
+        self.assertEqual(run(edges.typed(b"0,1,3\n0,0,2")), refused(8))
+        self.assertEqual(run(edges.typed(b"0,0,%d\n0,1,1" % MOST_RATE)), refused(9))
+
+    def test_until_beside_restarts(self):
+        """Moves to the own state change no until, and are not in q."""
+        def asked(*moves):
+            return moves_text(moves), LABELS, HOURS_8
+        self.assertEqual(run(asked((0, 0, MOST_RATE - 500), (0, 1, 500))), run(asked((0, 1, 500))))
+        longest = until(MOST_HUNDREDTHS)
+        self.assertEqual(run((moves_text([(0, 0, MOST_RATE)]), LABELS, longest)), run((NO_MOVES, LABELS, longest)))
+        rng = random.Random(7)
+        for sheet in (Sheet(rng) for _ in range(RESTARTS)):
+            question = b"P >= 500000000 U 1 %s %s\n" % (rng.choice(sheet.names), rng.choice(sheet.names))
+            others = moves_text([(a, b, rate) for a, b, rate in sheet.moves if a != b])
+            self.assertEqual(run((sheet.moves_text, sheet.labels_text, question)), run((others, sheet.labels_text, question)))
 
     def test_stack_of_the_deepest_formulas(self):
         limit = lambda: resource.setrlimit(resource.RLIMIT_STACK, (READING_STACK, READING_STACK))

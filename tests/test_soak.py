@@ -5,6 +5,7 @@ import unittest
 from pathlib import Path
 from unittest import mock
 
+from reckoning.refusal import BY_TEXTS, SHORT
 from tests import finding, soaking
 from tests.library import ENOUGH, GUARD, Library
 from tests.places import ROOT
@@ -51,7 +52,7 @@ class Soak(unittest.TestCase):
         self.assertEqual(ended.counts["by the program"], JOBS // soaking.PROGRAM_EVERY)
         self.assertLess(ended.counts["given up"], 0.05 * JOBS)
         self.assertGreater(ended.counts[0], 0.2 * JOBS)
-        self.assertLessEqual(set(range(16)) - {5}, set(ended.counts))
+        self.assertLessEqual({0, *BY_TEXTS, SHORT} - {5}, set(ended.counts))
 
     def test_a_wrong_number_is_found(self):
         ended = soak(JOBS, SEED, Wrong(self.library, one_for_another))

@@ -20,14 +20,19 @@ def texts(chain):
 
 
 def random_chain(random, states=None, greatest=None):
-    """A chain of 2 to 6 states with two labels; rates out of a state add to at most `greatest`."""
+    """A chain of 2 to 6 states with two labels, moves to the own state among its moves; rates out of a state add to at most `greatest`."""
     n = states or random.randint(2, 6)
     greatest = greatest or random.choice((10, 5_000, RATE_HOURS, MOST_RATE))
-    pairs = [(a, b) for a in range(n) for b in range(n) if a != b and random.random() < 0.5]
+    pairs = [(a, b) for a in range(n) for b in range(n) if random.random() < (0.5 if a != b else 0.3)]
     rates = {pair: random.randint(1, greatest // n) for pair in pairs}
     marks = {name: tuple(random.random() < share for _ in range(n))
              for name, share in ((b"up", 0.7), (b"dead", 0.3))}
     return Chain(n, rates, marks)
+
+
+def without_own_moves(chain):
+    """The same chain with no move to an own state."""
+    return Chain(chain.states, {(a, b): rate for (a, b), rate in chain.rates.items() if a != b}, chain.marks)
 
 
 def reading(chain):

@@ -13,9 +13,9 @@ from reckoning.judge import allowed_ends, judge
 from reckoning.refusal import refusal
 from reckoning.limits import BILLION
 from reckoning.report import ENDS_OF
-from reckoning.sheets import LABELS, MOVES, REPORT_LINE
+from reckoning.sheets import LABELS, MOVES, REPORT_LINE, moves_text
 from reckoning.tests.chains import random_chain, random_hundredths, row, texts
-from reckoning.verdict import WORDS, both, negate, of_ends
+from reckoning.verdict import NO, WORDS, YES, both, negate, of_ends
 
 NEAR = b"P >= 3992000 U 8 up dead"      # the limit is about 3,992,010.656: yes or undecided
 
@@ -56,17 +56,29 @@ def random_rows(random, rules, node):
 
 def random_formula(random, chain, levels):
     """Tokens of a formula whose thresholds often lie near a value of the chain."""
-    kind = random.choice("!&PPPl") if levels > 1 else "l"
+    kind = random.choice("!&UUUXXl") if levels > 1 else "l"
     if kind == "l":
         return random.choice((b"tt", b"up", b"dead"))
-    parts = [random_formula(random, chain, levels - 1) for _ in range(1 if kind == "!" else 2)]
-    if kind != "P":
+    parts = [random_formula(random, chain, levels - 1) for _ in range(1 if kind in "!X" else 2)]
+    if kind in "!&":
         return b" ".join([kind.encode(), *parts])
-    hundredths = random_hundredths(random, chain)
-    near = random.choice(Rules(chain).bounds(f.Until(hundredths, None, None), chain.marks[b"up"],
-                                             chain.marks[b"dead"])).down
-    threshold = min(BILLION, max(0, near + random.randint(-60, 60)))
-    return b" ".join([b"P", random.choice(f.COMPARISONS), b"%d U %s" % (threshold, f.hours_text(hundredths)), *parts])
+    path, near = random_path(random, chain, kind)
+    threshold = min(BILLION, max(0, near))
+    return b" ".join([b"P", random.choice(f.COMPARISONS), b"%d" % threshold, f.path_head(path), *parts])
+
+
+def random_path(random, chain, kind):
+    """A path formula without its operands, and a number near its value for labels at some state."""
+    if kind == "X":
+        path = f.Next(None)
+        return path, random.choice(label_ends(chain, path, b"dead")).lower[0] + random.randint(-1, 1)
+    path = f.Until(random_hundredths(random, chain), None, None)
+    return path, random.choice(Rules(chain).bounds(path, chain.marks[b"up"], chain.marks[b"dead"])).down + random.randint(-60, 60)
+
+
+def label_ends(chain, path, *names):
+    """The ends of a path whose operands are labels."""
+    return Rules(chain).ends(path, *(tuple(YES if mark else NO for mark in chain.marks[name]) for name in names))
 
 
 def random_jobs(random, count, levels, states=(2, 4)):
@@ -116,6 +128,26 @@ class Nodes(unittest.TestCase):
         self.assertNotEqual(judge(moves, labels, formula, printed(mixed)), [])
         allowed = allowed_ends(moves, labels, formula)
         self.assertEqual(allowed.verdicts, [{"no"}, {"yes", "undecided"}, {"yes"}])
+
+    def test_next_move_of_an_inner_verdict(self):
+        """State 0 goes to state 1, where the inner until is yes or undecided: one and the same way has to back the two ends."""
+        moves, labels = texts(row(3, 500))
+        formula = b"P >= 500000000 X " + NEAR + b"\n"
+        yes, open_, no = (BILLION, BILLION, 0, "yes"), (0, BILLION, 0, "undecided"), (0, 0, 0, "no")
+        for rows, good in (((yes, yes, no), True), ((open_, yes, no), True), ((yes, open_, no), False), ((no, yes, no), False),
+                           (((0, BILLION, 42, "undecided"), yes, no), False)):
+            self.assertEqual(judge(moves, labels, formula, printed(rows)) == [], good, rows)
+        allowed = allowed_ends(moves, labels, formula)
+        self.assertEqual((allowed.verdicts, allowed.depth, allowed.width), ([{"yes", "undecided"}, {"yes"}, {"no"}], 0, None))
+
+    def test_next_move_within_until(self):
+        """A third lies between two whole billionths: `X` is undecided at state 0 alone, and the until about it has to say so."""
+        moves, labels = moves_text([(0, 0, 2), (0, 1, 1)]), LABELS
+        formula = b"P >= 1 U 0 tt P >= 333333334 X dead\n"
+        self.assertEqual(judge(moves, labels, formula, printed([(0, BILLION, 40, "undecided"), (0, 0, 40, "no")])), [])
+        for wrong in ((0, 0, 40, "no"), (BILLION, BILLION, 40, "yes")):
+            self.assertNotEqual(judge(moves, labels, formula, printed([wrong, (0, 0, 40, "no")])), [])
+        self.assertFalse(judge(moves, labels, formula.replace(b"333333334", b"333333333"), printed([(BILLION, BILLION, 40, "yes"), (0, 0, 40, "no")])))
 
     def test_too_many(self):
         """The limit is put to the ways left; near ways are tried all the same."""

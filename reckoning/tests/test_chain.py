@@ -7,9 +7,9 @@ from math import exp
 from random import Random
 
 from reckoning.bracket import Run
-from reckoning.chain import Chain, Phase, depth, quotients, step_values, until, weights
+from reckoning.chain import Chain, Phase, depth, next_chances, quotients, step_values, until, weights
 from reckoning.limits import HOUR, MOST_HUNDREDTHS, MOST_RATE, MOST_RATE_HUNDREDTHS, RATE_HOURS, RATE_HUNDREDTHS, SPARE_STEPS
-from reckoning.tests.chains import random_chain, random_hundredths, random_untils, reading, row
+from reckoning.tests.chains import random_chain, random_hundredths, random_untils, reading, row, without_own_moves
 
 
 def first_weights(load, count):
@@ -17,11 +17,14 @@ def first_weights(load, count):
 
 
 def float_until(chain, first, second, hundredths):
-    """The until probability as a matrix power of e in floats: halve the time, add terms, square."""
+    """The until probability as a matrix power of e in floats: halve the time, add terms, square.
+
+    A move to the own state adds to the matrix's own entry what it adds to the total that is taken away there.
+    """
     n, halvings = chain.states, 20
     time = hundredths / RATE_HUNDREDTHS / 2 ** halvings
     inner = [first[s] and not second[s] for s in range(n)]
-    small = [[time * (chain.rates.get((a, b), 0) - (a == b) * chain.exits[a]) if inner[a] else 0.0
+    small = [[time * (chain.rates.get((a, b), 0) - (a == b) * chain.totals[a]) if inner[a] else 0.0
               for b in range(n)] for a in range(n)]
     term = result = [[float(a == b) for b in range(n)] for a in range(n)]
     for k in range(1, 12):
@@ -48,6 +51,13 @@ class Depth(unittest.TestCase):
         self.assertEqual((chain.exits, chain.q), ([5, 11, 0], 11))
         self.assertEqual(chain.load(8 * HOUR), Fraction(88, RATE_HOURS))
         self.assertEqual(chain.load(825), Fraction(11 * 825, RATE_HUNDREDTHS))
+
+    def test_moves_to_the_own_state(self):
+        """Until leaves them out of exit rates and q."""
+        chain = Chain(3, {(0, 0): 90, (0, 1): 5, (1, 0): 4, (1, 2): 7, (2, 2): 30}, {})
+        self.assertEqual((chain.exits, chain.q, chain.totals), ([5, 11, 0], 11, [95, 11, 30]))
+        still = Chain(2, {(0, 0): MOST_RATE}, {})
+        self.assertEqual((still.q, still.load(MOST_HUNDREDTHS), still.totals), (0, 0, [MOST_RATE, 0]))
 
     def test_weights(self):
         self.assertEqual(first_weights(Fraction(0), 3), [1, 0, 0])
@@ -150,3 +160,49 @@ class Rising(unittest.TestCase):
             runs = [Run(chain, each).to(40) for each in (phase, until(*more, phase.hundredths))]
             for s in range(chain.states):
                 self.assertLessEqual(runs[0].quotient(s), runs[1].quotient(s))
+
+    def test_not_with_moves_to_the_own_state(self):
+        """They change no quotient."""
+        for chain, phase in random_untils(Random(19), 30):
+            for last in (1, 9, 40):
+                self.assertEqual(quotients(chain, phase, last), quotients(without_own_moves(chain), phase, last))
+
+
+class NextMove(unittest.TestCase):
+    def test_by_hand(self):
+        """Two moves of three into state 1, one of them its own; no move out of state 2."""
+        chain = Chain(3, {(0, 0): 1, (0, 1): 3, (0, 2): 5, (1, 1): 7, (1, 2): 7}, {})
+        third, half = Fraction(1, 3), Fraction(1, 2)
+        self.assertEqual(next_chances(chain, (False, True, False)), [third, half, 0])
+        self.assertEqual(next_chances(chain, (True, True, False)), [4 * third / 3, half, 0])
+        self.assertEqual(next_chances(chain, (True, True, True)), [1, 1, 0])
+        self.assertEqual(next_chances(chain, (False, False, False)), [0, 0, 0])
+
+    def test_a_move_to_the_own_state_counts(self):
+        """As a restart does: it is a next move, into the state itself."""
+        chain = Chain(2, {(0, 0): 2, (0, 1): 1}, {})
+        self.assertEqual(next_chances(chain, (False, True)), [Fraction(1, 3), 0])
+        self.assertEqual(next_chances(chain, (True, False)), [Fraction(2, 3), 0])
+        self.assertEqual(next_chances(without_own_moves(chain), (False, True)), [1, 0])
+
+    def test_a_reading_and_its_opposite_add_to_1(self):
+        random = Random(20)
+        for _ in range(40):
+            chain = random_chain(random)
+            holds = [random.random() < 0.5 for _ in range(chain.states)]
+            pairs = zip(next_chances(chain, holds), next_chances(chain, [not each for each in holds]))
+            self.assertEqual([a + b for a, b in pairs], [1 if total else 0 for total in chain.totals])
+
+    def test_by_the_jump_of_the_uniformised_chain(self):
+        """With no move to an own state: one step of until from a state that is left at q is the next move."""
+        random, seen = Random(21), 0
+        for _ in range(60):
+            chain = without_own_moves(random_chain(random))
+            dead = chain.marks[b"dead"]
+            *_, values = islice(step_values(chain, until((True,) * chain.states, dead, HOUR)), 2)
+            chances = next_chances(chain, dead)
+            for s in range(chain.states):
+                if chain.q and chain.exits[s] == chain.q and not dead[s]:
+                    seen += 1
+                    self.assertEqual(values[s], chances[s])
+        self.assertGreater(seen, 20)

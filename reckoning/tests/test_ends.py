@@ -2,14 +2,18 @@
 
 import unittest
 from itertools import product
+from operator import ge, gt, le, lt
 from random import Random
 
-from reckoning.chain import Chain
+from reckoning.chain import Chain, next_chances
 from reckoning.ends import CERTAIN, IMPOSSIBLE, Ends, Rules, has, verdicts
-from reckoning.formula import COMPARISONS, P, Tt, Until
+from reckoning.formula import COMPARISONS, Next, P, Tt, Until
 from reckoning.limits import BILLION, HOUR, MOST_HUNDREDTHS
 from reckoning.tests.chains import random_chain, random_hundredths, row
 from reckoning.verdict import NO, UNDECIDED, WORDS, YES, both, negate, of_ends
+
+NEXT = Next(Tt())
+COMPARED = {b"<": lt, b"<=": le, b">=": ge, b">": gt}
 
 
 def path(hundredths):
@@ -89,3 +93,79 @@ class StateEnds(unittest.TestCase):
                 self.assertTrue(has(ends, ends.lower[1], ends.upper[0]))
                 self.assertTrue(has(ends, ends.lower[0], ends.upper[0]))
                 self.assertTrue(has(ends, ends.lower[1], ends.upper[1]))
+
+
+def exactly(lower, upper, width=1):
+    """Ends that are determined."""
+    return Ends((lower, lower), (upper, upper), width)
+
+
+def readings(vector):
+    """Every way to take each undecided state for yes or no."""
+    return product(*({YES: (True,), NO: (False,), UNDECIDED: (False, True)}[word] for word in vector))
+
+
+class NextEnds(unittest.TestCase):
+    """The ends of `X`, which the rules determine."""
+
+    def test_rounded_outwards(self):
+        chain = Chain(3, {(0, 0): 2, (0, 1): 1, (1, 0): 2, (1, 1): 2, (1, 2): 2, (2, 0): 1, (2, 1): 1}, {})
+        ends = Rules(chain).ends(NEXT, (NO, YES, NO))
+        self.assertEqual(ends, [exactly(333_333_333, 333_333_334), exactly(333_333_333, 333_333_334), exactly(BILLION // 2, BILLION // 2)])
+
+    def test_no_move_out(self):
+        chain = Chain(2, {(1, 1): 3}, {})
+        self.assertEqual(Rules(chain).ends(NEXT, (YES, YES)), [exactly(0, 0), exactly(BILLION, BILLION)])
+        self.assertEqual(Rules(chain).ends(NEXT, (UNDECIDED, UNDECIDED)), [exactly(0, 0, None), exactly(0, BILLION, None)])
+
+    def test_the_own_state_need_not_be_the_operands(self):
+        """A state of the operand has no chance of its own, and one outside no chance less: moves alone count."""
+        self.assertEqual(Rules(row(3, 500)).ends(NEXT, (YES, NO, NO)), [exactly(0, 0)] * 3)
+        self.assertEqual(Rules(row(3, 500)).ends(NEXT, (NO, YES, NO)), [exactly(BILLION, BILLION), exactly(0, 0), exactly(0, 0)])
+
+    def test_undecided_operand(self):
+        """Lower with no, upper with yes, and one undecided state frees the width of all."""
+        chain = Chain(3, {(0, 1): 1, (0, 2): 2, (1, 2): 7}, {})
+        self.assertEqual(Rules(chain).ends(NEXT, (NO, UNDECIDED, YES)),
+                         [exactly(666_666_666, BILLION, None), exactly(BILLION, BILLION, None), exactly(0, 0, None)])
+        self.assertEqual(Rules(chain).ends(NEXT, (NO, YES, UNDECIDED))[0], exactly(333_333_333, BILLION, None))
+
+    def test_depth(self):
+        self.assertEqual(Rules(row(2, 500)).depth(NEXT), 0)
+
+    def random_vectors(self, seed):
+        """Random chains, each with some verdicts of an operand and what the rules make of them."""
+        random = Random(seed)
+        for _ in range(60):
+            chain = random_chain(random, states=random.randint(2, 4))
+            vector = tuple(random.choice(WORDS) for _ in range(chain.states))
+            yield chain, vector, Rules(chain).ends(NEXT, vector)
+
+    def test_no_reading_lies_outside(self):
+        """And the two readings that make the ends come within a billionth of them."""
+        for chain, vector, every in self.random_vectors(22):
+            chances = list(zip(*(next_chances(chain, taken) for taken in readings(vector))))
+            for ends, found in zip(every, chances):
+                self.assertTrue(0 <= BILLION * min(found) - ends.lower[0] < 1)
+                self.assertTrue(0 <= ends.upper[0] - BILLION * max(found) < 1)
+
+    def test_width(self):
+        for chain, vector, every in self.random_vectors(23):
+            decided = tuple(YES if word == UNDECIDED else word for word in vector)
+            for ends in Rules(chain).ends(NEXT, decided):
+                self.assertLessEqual(ends.upper[0] - ends.lower[0], 1)
+                self.assertEqual(ends.width, 1)
+
+    def test_a_decided_verdict_is_that_of_every_fraction(self):
+        """Yes or no from the ends holds of the exact fraction, whatever the reading."""
+        random, decided = Random(24), 0
+        for chain, vector, every in self.random_vectors(25):
+            chances = list(zip(*(next_chances(chain, taken) for taken in readings(vector))))
+            for ends, found in zip(every, chances):
+                node = P(random.choice(COMPARISONS), random.choice((*ends.lower, *ends.upper, random.randint(0, BILLION))), NEXT)
+                word, = verdicts(node, ends)
+                truths = {COMPARED[node.comparison](BILLION * chance, node.threshold) for chance in found}
+                if word != UNDECIDED:
+                    decided += 1
+                    self.assertEqual(truths, {word == YES})
+        self.assertGreater(decided, 60)

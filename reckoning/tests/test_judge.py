@@ -136,6 +136,39 @@ class Content(Judged):
                      formula=formula, printed=right, moves=moves)
 
 
+class NextMove(Judged):
+    """`X` at the top: both ends are determined, and the depth is 0."""
+    RESTARTS = dict(moves=moves_text([(0, 0, 2), (0, 1, 1), (1, 1, 3)]))
+    FORMULA = b"P >= 333333334 X dead\n"
+    PRINTED = REPORT_LINE + b"0,333333333,333333334,0,undecided\n1,1000000000,1000000000,0,yes\n"
+
+    def test_small_sheet(self):
+        self.allows(b"P > 0 X dead\n", REPORT_LINE + b"0,1000000000,1000000000,0,yes\n1,0,0,0,no\n")
+        self.refuses(b"P > 0 X dead\n", REPORT_LINE + b"0,1000000000,1000000000,0,yes\n1,1000000000,1000000000,0,yes\n")
+
+    def test_a_restart_counts(self):
+        self.allows(self.FORMULA, self.PRINTED, **self.RESTARTS)
+        for old, new in ((b"333333333,333333334", b"1000000000,1000000000"), (b"333333333,", b"333333332,"), (b",333333334", b",333333335"),
+                         (b"333333333,333333334", b"333333333,333333333"), (b"333333333,333333334", b"333333334,333333334"),
+                         (b",0,undecided", b",0,no"), (b",0,undecided", b",40,undecided"), (b",0,yes", b",42,yes"),
+                         (b"1,1000000000,1000000000,0,yes", b"1,0,0,0,no")):
+            self.assertIn(old, self.PRINTED)
+            self.refuses(self.FORMULA, self.PRINTED.replace(old, new, 1), **self.RESTARTS)
+
+    def test_until_leaves_restarts_out(self):
+        """Rate 500 beside a restart as fast as can be: the bench value with q 500."""
+        self.allows(HOURS_8, HOURS_8_REPORT, moves=moves_text([(0, 0, 63_999_500), (0, 1, 500)]))
+        self.allows(until(MOST_HUNDREDTHS), REPORT_LINE + b"0,0,0,40,yes\n1,1000000000,1000000000,40,no\n", moves=moves_text([(0, 0, 64_000_000)]))
+
+    def test_width(self):
+        allowed = allowed_ends(MOVES, LABELS, self.FORMULA)
+        self.assertEqual((allowed.depth, allowed.width), (0, 1))
+
+    def test_refusals(self):
+        self.allows(b"P < 1 X dead up\n", b"refused\n10\n")
+        self.allows(b"P < 1000000001 X dead\n", b"refused\n13\n")
+
+
 class FurtherThanDepth(Judged):
     """60 states in a row, rate 1, 1 hour."""
 

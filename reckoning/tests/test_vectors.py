@@ -22,8 +22,10 @@ class Vectors(unittest.TestCase):
                     self.agrees(case, allowed_ends(*texts_of(case)))
 
     def agrees(self, case, allowed):
+        """The vectors say nothing of the width of an `X`, whose ends are determined; its depth is 0."""
         self.assertEqual(allowed.depth, case["depth"])
-        self.assertEqual(allowed.width, case.get("width"))
+        if case["depth"]:
+            self.assertEqual(allowed.width, case.get("width"))
         self.assertEqual([list(pair) for pair in allowed.lower], case["lower"])
         self.assertEqual([list(pair) for pair in allowed.upper], case["upper"])
         self.assertEqual(list(map(sorted, allowed.verdicts)), list(map(sorted, case["verdict"])))

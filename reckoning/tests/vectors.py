@@ -7,13 +7,21 @@ FOLDER = Path(__file__).resolve().parents[3] / "shared" / "vectors"
 MISSING = None if FOLDER.is_dir() else "the vectors are not there: no folder ../shared/vectors beside the repository"
 
 
-# The files whose lines are true of what stands: the base's, which the first request leaves alone, and the first request's.
-FILES = "refusals.jsonl", "reports.jsonl", "request-1.jsonl"
+# The base's files and those of the requests that stand. The second request, "7 is never given again", leaves the base's lines alone but for
+# those that have this number.
+FILES = "refusals.jsonl", "reports.jsonl", "request-1.jsonl", "request-2.jsonl"
+NEVER_GIVEN = 7
+
+
+def stands(case):
+    """Whether a line is true of what stands."""
+    return case.get("refused") != NEVER_GIVEN
 
 
 def cases():
     """The jobs: for each a dict with the three texts as bytes, and what is answered."""
-    found = [json.loads(line) for name in FILES for line in (FOLDER / name).read_text(encoding="utf-8").splitlines()]
+    lines = [json.loads(line) for name in FILES for line in (FOLDER / name).read_text(encoding="utf-8").splitlines()]
+    found = list(filter(stands, lines))
     for case in found:
         case.update((text, case[text].encode("latin-1")) for text in ("moves", "labels", "formula"))
     return found

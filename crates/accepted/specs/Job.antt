@@ -1,10 +1,10 @@
 -- What a job has that no test of its three texts turns back, and the outcome by its texts and then its buffers. Assumes nothing.
 use mathlib.Core.Path.{_≡_, refl, ap, _∙_}
-use mathlib.Core.Bool.{true, false}
+use mathlib.Core.Bool.{true, false, not, false≢true}
 use mathlib.Core.List.{List, [], _∷_, _++_}
 use mathlib.Core.Option.{none, some}
 use Prim.Native.Nat.{ℕ, _≤_, _<_}
-use lib.Dec.{leb, ltb}
+use lib.Dec.{leb, ltb, eqb}
 use borrow.Author.Tests.{ltb-true, leb-true}
 use Rattle.csl.specs.Text.{every}
 use Rattle.csl.specs.Limits.{formulaBytes}
@@ -25,6 +25,12 @@ refusal-number-some j lent k h = ltb-true 0 k (first-number (ltb 0) (textTests j
 pub refusal-number-most : (j : Job) (lent : Buffers ℕ) (k : ℕ) → refusal j lent ≡ some k → k ≤ 15
 unfolding refusal textTests sheetTests formulaTests every
 refusal-number-most j lent k h = leb-true k 15 (first-number (λ n. leb n 15) (textTests j ++ (test 15 (shortBuffer j lent) ∷ [])) k refl h)
+
+-- "7 is never given again"
+pub refusal-number-not-7 : (j : Job) (lent : Buffers ℕ) → refusal j lent ≡ some 7 → ⊥
+unfolding refusal textTests sheetTests formulaTests every
+refusal-number-not-7 j lent h =
+    absurd (false≢true (first-number (λ n. not (eqb n 7)) (textTests j ++ (test 15 (shortBuffer j lent) ∷ [])) 7 refl h))
 
 pub text-number-most : (j : Job) (k : ℕ) → textRefusal j ≡ some k → k < 100
 unfolding textRefusal textTests sheetTests formulaTests every

@@ -1,5 +1,5 @@
--- Rates by pairs of states and rates by lines: in a sheet whose moves name its states and go to other states, the exit rate of a state is
--- the sum of the rates on its lines. Assumes nothing.
+-- Rates by pairs of states and rates by lines, in a sheet whose moves name its states: the exit rate of a state is the sum of the rates on
+-- its lines to other states, and for the next move that on all its lines. Assumes nothing.
 use mathlib.Core.Path.{_≡_, refl, ap, sym, _∙_}
 use mathlib.Core.Bool.{Bool, true, false, cond, _&&_, _||_}
 use mathlib.Core.List.{List, [], _∷_}
@@ -13,20 +13,17 @@ use Rattle.csl.specs.Limits.{mostRate}
 use Rattle.csl.specs.Moves.{Move, rateIn, ratesOut}
 use Rattle.csl.specs.Sheet.{Sheet}
 use Rattle.csl.specs.Chain.{chainOf, sumTo, away, exitRate}
+use Rattle.csl.specs.Next.{nextExitRate}
 use Rattle.numbers.specs.Sum.{sum-cong, sum-add, sum-none}
-use Rattle.csl.specs.Refusal.{strangeState, ownState, wrongRate}
+use Rattle.csl.specs.Refusal.{strangeState, wrongRate}
 use Rattle.accepted.specs.Order.{neither}
 
--- each line names states below n; none goes to its own state
+-- each line names states below n
 unfoldable pub Within : ℕ → List Move → Type 0
 Within n [] = Unit {0}
 Within n (m ∷ ms) = (m .from < n) × (m .to < n) × Within n ms
 
-unfoldable pub Apart : List Move → Type 0
-Apart [] = Unit {0}
-Apart (m ∷ ms) = (m .from ≡ m .to → ⊥) × Apart ms
-
--- as the tests have them
+-- as the tests have it
 pub within-tested : (n : ℕ) (ms : List Move) → strangeState n ms ≡ false → Within n ms
 unfolding any Within
 within-tested n [] h = tt
@@ -34,12 +31,6 @@ within-tested n (m ∷ ms) h =
     let a = neither (leb n (m .from) || leb n (m .to)) _ h in
     let b = neither (leb n (m .from)) _ (a .0) in
     (leb-false _ _ (b .0), leb-false _ _ (b .1), within-tested n ms (a .1))
-
-pub apart-tested : (ms : List Move) → ownState ms ≡ false → Apart ms
-unfolding any Apart
-apart-tested [] h = tt
-apart-tested (m ∷ ms) h =
-    let a = neither (eqb (m .from) (m .to)) _ h in (eqb-false _ _ (a .0), apart-tested ms (a .1))
 
 -- the share of one line in the sum over all targets
 line-share : (b : Bool) (r to n : ℕ) → to < n → sumTo (λ t. cond (b && eqb to t) r 0) n ≡ cond b r 0
@@ -66,31 +57,79 @@ rates-by-lines (m ∷ ms) s n h =
     sum-add (λ t. cond (eqb (m .from) s && eqb (m .to) t) (m .rate) 0) (rateIn ms s) n
     ∙ omega (arith, line-share (eqb (m .from) s) (m .rate) (m .to) n (h .1), rates-by-lines ms s n (h .2))
 
-own-none : (b : Bool) (from to r s : ℕ) → (from ≡ to → ⊥) → eqb from s ≡ b → cond (b && eqb to s) r 0 ≡ 0
-own-none false from to r s d e = refl
-own-none true from to r s d e = rw (ne-eqb to s (λ z. d (eqb-true _ _ e ∙ sym z))) refl
+-- the lines that do not go to their own state
+unfoldable pub others : List Move → List Move
+others [] = []
+others (m ∷ ms) = cond (eqb (m .from) (m .to)) (others ms) (m ∷ others ms)
 
-pub own-rate : (ms : List Move) (s : ℕ) → Apart ms → rateIn ms s s ≡ 0
-unfolding Apart rateIn
-own-rate [] s h = refl
-own-rate (m ∷ ms) s h =
-    omega (arith, own-none (eqb (m .from) s) (m .from) (m .to) (m .rate) s (h .0) refl, own-rate ms s (h .1))
+others-within : (n : ℕ) (ms : List Move) → Within n ms → Within n (others ms)
+unfolding Within others
+others-within n [] h = tt
+others-within n (m ∷ ms) h = go (eqb (m .from) (m .to)) (others-within n ms (h .2))
+  where
+    go : (x : Bool) → Within n (others ms) → Within n (cond x (others ms) (m ∷ others ms))
+    go true k = k
+    go false k = (h .0, h .1, k)
+
+-- the share of one line in the rate from s to t, where it is known whether it leaves s: none from s to s by a line to another state, and none
+-- from s to another state by a line to its own
+other-own : (b : Bool) (from to r s : ℕ) → (from ≡ to → ⊥) → eqb from s ≡ b → cond (b && eqb to s) r 0 ≡ 0
+other-own false from to r s d e = refl
+other-own true from to r s d e = rw (ne-eqb to s (λ z. d (eqb-true _ _ e ∙ sym z))) refl
+
+own-other : (b : Bool) (from to r s t : ℕ) → from ≡ to → (s ≡ t → ⊥) → eqb from s ≡ b → cond (b && eqb to t) r 0 ≡ 0
+own-other false from to r s t e d h = refl
+own-other true from to r s t e d h = rw (ne-eqb to t (λ z. d (sym (eqb-true _ _ h) ∙ e ∙ z))) refl
+
+others-own : (ms : List Move) (s : ℕ) → rateIn (others ms) s s ≡ 0
+unfolding rateIn others
+others-own [] s = refl
+others-own (m ∷ ms) s = go (eqb (m .from) (m .to)) refl (others-own ms s)
+  where
+    go : (x : Bool) → eqb (m .from) (m .to) ≡ x → rateIn (others ms) s s ≡ 0 → rateIn (cond x (others ms) (m ∷ others ms)) s s ≡ 0
+    go true e k = k
+    go false e k = omega (arith, other-own (eqb (m .from) s) (m .from) (m .to) (m .rate) s (eqb-false _ _ e) refl, k)
+
+others-rate : (ms : List Move) (s t : ℕ) → (s ≡ t → ⊥) → rateIn ms s t ≡ rateIn (others ms) s t
+unfolding rateIn others
+others-rate [] s t d = refl
+others-rate (m ∷ ms) s t d = go (eqb (m .from) (m .to)) refl (others-rate ms s t d)
+  where
+    go : (x : Bool) → eqb (m .from) (m .to) ≡ x → rateIn ms s t ≡ rateIn (others ms) s t
+        → cond (eqb (m .from) s && eqb (m .to) t) (m .rate) 0 + rateIn ms s t ≡ rateIn (cond x (others ms) (m ∷ others ms)) s t
+    go true e k = omega (arith, own-other (eqb (m .from) s) (m .from) (m .to) (m .rate) s t (eqb-true _ _ e) d refl, k)
+    go false e k = omega (arith, k)
 
 -- so for the chain of a sheet
-module _ (sheet : Sheet) (within : Within (sheet .states) (sheet .moves)) (apart : Apart (sheet .moves)) where
-  pub away-by-lines : (s t : ℕ) → away (chainOf sheet) s t ≡ rateIn (sheet .moves) s t
+module _ (sheet : Sheet) (within : Within (sheet .states) (sheet .moves)) where
+  pub away-by-lines : (s t : ℕ) → away (chainOf sheet) s t ≡ rateIn (others (sheet .moves)) s t
   unfolding away chainOf
   away-by-lines s t = go (eqb s t) refl
     where
-      go : (x : Bool) → eqb s t ≡ x → cond (eqb s t) 0 (rateIn (sheet .moves) s t) ≡ rateIn (sheet .moves) s t
-      go true e = let z : s ≡ t = eqb-true _ _ e in rw (e, ← z) (sym (own-rate (sheet .moves) s apart))
-      go false e = rw e refl
+      go : (x : Bool) → eqb s t ≡ x → cond x 0 (rateIn (sheet .moves) s t) ≡ rateIn (others (sheet .moves)) s t
+      go true e = let z : s ≡ t = eqb-true _ _ e in rw (← z) (sym (others-own (sheet .moves) s))
+      go false e = others-rate (sheet .moves) s t (eqb-false _ _ e)
 
-  pub exit-by-lines : (s : ℕ) → exitRate (chainOf sheet) s ≡ ratesOut (sheet .moves) s
+  pub exit-by-lines : (s : ℕ) → exitRate (chainOf sheet) s ≡ ratesOut (others (sheet .moves)) s
   unfolding exitRate chainOf
   exit-by-lines s =
-      sum-cong (away (chainOf sheet) s) (rateIn (sheet .moves) s) (sheet .states) (λ t l. away-by-lines s t)
-      ∙ rates-by-lines (sheet .moves) s (sheet .states) within
+      sum-cong (away (chainOf sheet) s) (rateIn (others (sheet .moves)) s) (sheet .states) (λ t l. away-by-lines s t)
+      ∙ rates-by-lines (others (sheet .moves)) s (sheet .states) (others-within _ (sheet .moves) within)
+
+  pub next-exit-by-lines : (s : ℕ) → nextExitRate (chainOf sheet) s ≡ ratesOut (sheet .moves) s
+  unfolding nextExitRate chainOf
+  next-exit-by-lines s = rates-by-lines (sheet .moves) s (sheet .states) within
+
+-- what goes to other states is not more than all
+pub others-slower : (ms : List Move) (s : ℕ) → ratesOut (others ms) s ≤ ratesOut ms s
+unfolding ratesOut others
+others-slower [] s = omega arith
+others-slower (m ∷ ms) s = go (eqb (m .from) (m .to)) (others-slower ms s)
+  where
+    go : (x : Bool) → ratesOut (others ms) s ≤ ratesOut ms s
+        → ratesOut (cond x (others ms) (m ∷ others ms)) s ≤ cond (eqb (m .from) s) (m .rate) 0 + ratesOut ms s
+    go true k = omega arith
+    go false k = omega arith
 
 -- a state that a line leaves keeps the limit of rates; one that none leaves has no rate
 left-within : (b : ℕ) (f : ℕ → ℕ) (s : ℕ) (ms : List Move) → any (λ m. eqb (m .rate) 0 || ltb b (f (m .from))) ms ≡ false

@@ -1,9 +1,9 @@
 -- What a sheet has whose two texts passed their tests: of the texts, and of the value that goes on from them. Assumes nothing.
-use mathlib.Core.Path.{_≡_, refl, sym}
+use mathlib.Core.Path.{_≡_, sym}
 use mathlib.Core.Bool.{Bool, true, false, not, _&&_, _||_, and-eq-true-iff}
 use mathlib.Core.List.{[], headD}
 use mathlib.Core.Option.{none}
-use Prim.Native.Nat.{ℕ, zero, suc, _≤_}
+use Prim.Native.Nat.{ℕ, _≤_}
 use native.Mathlib.Omega.{arith}
 use lib.ListN.{length}
 use lib.Dec.{leb, ltb, eqb}
@@ -15,10 +15,10 @@ use Rattle.csl.specs.Labels.{isName, noRepeat, labelsHead, labelsLayout, inTurn
 use Rattle.csl.specs.Moves.{movesHead, movesLayout, movesOf, isRising, ratesOut}
 use Rattle.csl.specs.Sheet.{Sheet, sheetOf}
 use Rattle.csl.specs.Chain.{chainOf, greatest, topRate}
-use Rattle.numbers.specs.Sum.{greatest-most}
+use Rattle.numbers.specs.Sum.{greatest-cong, greatest-most}
 use Rattle.csl.specs.Refusal.{brokenLayout, wrongFirstLine, wrongStates, manyMoves, strangeState, notRising, wrongRate, sheetTests, firstOf}
 use Rattle.accepted.specs.Order.{neither, NoneHolds, first-none}
-use Rattle.accepted.specs.Rates.{Within, Apart, within-tested, apart-tested, rates-tested, exit-by-lines}
+use Rattle.accepted.specs.Rates.{Within, within-tested, rates-tested, others, others-slower, exit-by-lines}
 
 -- a sheet that can be decided over: 01's limits hold of it
 pub record Sound (sheet : Sheet) : Type 0 where
@@ -28,23 +28,22 @@ pub record Sound (sheet : Sheet) : Type 0 where
   pub no-repeat : noRepeat (sheet .names) ≡ true
   pub few-moves : length (sheet .moves) ≤ mostMoves
   pub within : Within (sheet .states) (sheet .moves)
-  pub apart : Apart (sheet .moves)
   pub rising : isRising (sheet .moves) ≡ true
   pub slow : (s : ℕ) → ratesOut (sheet .moves) s ≤ mostRate
 
-greatest-same : (f g : ℕ → ℕ) (n : ℕ) → ((s : ℕ) → f s ≡ g s) → greatest f n ≡ greatest g n
-unfolding greatest
-greatest-same f g zero h = refl
-greatest-same f g (suc n) h = rw (greatest-same f g n h, h n)
-
 module _ (sheet : Sheet) (k : Sound sheet) where
-  -- q is the greatest sum of rates on the lines out of one state, and no greater than such a sum may be
-  pub top-is : greatest (ratesOut (sheet .moves)) (sheet .states) ≡ topRate (chainOf sheet)
+  -- q is the greatest sum of rates on the lines from one state to others, and no greater than such a sum may be
+  pub top-is : greatest (ratesOut (others (sheet .moves))) (sheet .states) ≡ topRate (chainOf sheet)
   unfolding topRate chainOf
-  top-is = greatest-same _ _ (sheet .states) λ s. sym (exit-by-lines sheet (k .within) (k .apart) s)
+  top-is = greatest-cong _ _ (sheet .states) λ s l. sym (exit-by-lines sheet (k .within) s)
 
   pub top-slow : topRate (chainOf sheet) ≤ mostRate
-  top-slow = omega (arith, top-is, greatest-most (ratesOut (sheet .moves)) mostRate (sheet .states) λ s l. k .slow s)
+  top-slow =
+      omega (
+        arith,
+        top-is,
+        greatest-most (ratesOut (others (sheet .moves))) mostRate (sheet .states) λ s l. omega (arith, others-slower (sheet .moves) s, k .slow s),
+      )
 
 -- texts that passed
 pub record SheetPassed (moves labels : Text) : Type 0 where
@@ -89,9 +88,8 @@ module _ (moves labels : Text) (n : NoneHolds (sheetTests moves labels)) where
         no-repeat = names .1;
         few-moves = ltb-false _ _ (n .1 .1 .1 .1 .0);
         within = within-tested (statesOf labels) (movesOf moves) (n .1 .1 .1 .1 .1 .0);
-        apart = apart-tested (movesOf moves) (n .1 .1 .1 .1 .1 .1 .0);
-        rising = not-false _ (n .1 .1 .1 .1 .1 .1 .1 .0);
-        slow = λ s. rates-tested (movesOf moves) (n .1 .1 .1 .1 .1 .1 .1 .1 .0) s;
+        rising = not-false _ (n .1 .1 .1 .1 .1 .1 .0);
+        slow = λ s. rates-tested (movesOf moves) (n .1 .1 .1 .1 .1 .1 .1 .0) s;
       }
 
 pub sheet-passed : (moves labels : Text) → firstOf (sheetTests moves labels) ≡ none → SheetPassed moves labels
@@ -103,6 +101,6 @@ sheet-passed moves labels h =
       labels-layout = layouts moves labels n .1;
       labels-head = head moves labels n;
       known-states = n .1 .1 .1 .1 .1 .0;
-      good-rates = n .1 .1 .1 .1 .1 .1 .1 .1 .0;
+      good-rates = n .1 .1 .1 .1 .1 .1 .1 .0;
       sound = sound-texts moves labels n;
     }

@@ -7,17 +7,19 @@ use native.Mathlib.Omega.{arith}
 use lib.Dec.{leb, eqb}
 use borrow.Author.Tests.{leb-true, eqb-false}
 use Rattle.csl.specs.Limits.{billion, rateHundredths, mostRateHundredths}
-use Rattle.csl.specs.Formula.{Comparison, Formula, always, label, negated, both, chance, Path, until, PathOf, untilOf, pathOf}
+use Rattle.csl.specs.Formula.{Comparison, Formula, always, label, negated, both, chance, Path, until, nextMove, PathOf, untilOf, nextOf, pathOf}
 use Rattle.csl.specs.Formula.{phasesPass, pathsPass, pathsPassIn}
 use Rattle.csl.specs.Chain.{Chain, topRate, load, depth}
 use Rattle.csl.specs.Phase.{Phase}
 use Rattle.csl.specs.Verdicts.{Verdict, Yes, marked, negation, conjunction, judged, least, most}
 use Rattle.csl.specs.Until.{untilPhase}
+use Rattle.csl.specs.Next.{nextLower, nextUpper}
 use Rattle.csl.specs.Path.{FollowsAt}
 use Rattle.csl.specs.Ends.{EndsAt}
 use Rattle.csl.specs.Backing.{Backed, AtEach, PathBacked, ChanceKeeps}
 use Rattle.csl.specs.Report.{Reported, lowerOf as plainLower, upperOf as plainUpper}
 use Rattle.csl.specs.Refusal.{inLoad}
+use Rattle.csl.specs.Laws.NextEnds.{ends-next}
 use Rattle.bounds.specs.Ends.{end-same}
 use Rattle.bounds.specs.Upper.{left-same}
 use Rattle.bounds.specs.Width.{mostDepth}
@@ -69,9 +71,11 @@ ends-found c t v w small s l =
 -- the ends of a path at each state, where its operands have the verdicts in o; one line for each kind of path
 abbrev pub lowerPath : Chain → PathOf (ℕ → Verdict) → ℕ → ℕ
 lowerPath c (untilOf t v w) s = lowerFound c t v w s
+lowerPath c (nextOf v) s = nextLower c v s
 
 abbrev pub upperPath : Chain → PathOf (ℕ → Verdict) → ℕ → ℕ
 upperPath c (untilOf t v w) s = upperFound c t v w s
+upperPath c (nextOf v) s = nextUpper c v s
 
 -- and the verdict that follows
 abbrev pub verdictPath : Chain → Comparison → ℕ → PathOf (ℕ → Verdict) → ℕ → Verdict
@@ -88,6 +92,7 @@ unfoldable mutual
 
   pub foundIn : Chain → Path → PathOf (ℕ → Verdict)
   foundIn c (until t a b) = untilOf t (λ s. found c a s) (λ s. found c b s)
+  foundIn c (nextMove a) = nextOf (λ s. found c a s)
 
 -- the ends of its report
 unfoldable pub reportLower : Chain → Formula → ℕ → ℕ
@@ -109,10 +114,12 @@ module _ (c : Chain) (test : ℕ → Bool) (small : (t : ℕ) → test t ≡ tru
   -- each kind of path: the ends keep the rules, and the verdict follows
   path-ends : (o : PathOf (ℕ → Verdict)) → phasesPass test o ≡ true → AtEach c λ s. EndsAt c o s (lowerPath c o s) (upperPath c o s)
   path-ends (untilOf t v w) h = ends-found c t v w (small t h)
+  path-ends (nextOf v) h = λ s l. ends-next c v s
 
   path-follows : (r : Comparison) (p : ℕ) (o : PathOf (ℕ → Verdict)) (s : ℕ)
       → FollowsAt c o r p s (lowerPath c o s) (upperPath c o s) (verdictPath c r p o s)
   path-follows r p (untilOf t v w) s = refl
+  path-follows r p (nextOf v) s = refl
 
   chance-keeps : (r : Comparison) (p : ℕ) (o : PathOf (ℕ → Verdict)) → phasesPass test o ≡ true
       → ChanceKeeps c r p (lowerPath c o) (upperPath c o) (verdictPath c r p o) o
@@ -122,6 +129,7 @@ module _ (c : Chain) (test : ℕ → Bool) (small : (t : ℕ) → test t ≡ tru
   same-phases : (w : Path) → phasesPass test (pathOf w) ≡ true → phasesPass test (foundIn c w) ≡ true
   unfolding foundIn
   same-phases (until t a b) h = h
+  same-phases (nextMove a) h = h
 
   abbrev Passes : Formula → Type 0
   Passes f = pathsPass (λ p o. phasesPass test o) f ≡ true
@@ -164,6 +172,7 @@ module _ (c : Chain) (test : ℕ → Bool) (small : (t : ℕ) → test t ≡ tru
           second-backed = found-backed b (i .1);
           keeps = k;
         }
+    path-backed (nextMove a) r p lower upper v k h = record { first = λ s. found c a s; first-backed = found-backed a h; keeps = k }
 
   pub found-reported : (f : Formula) → Passes f → Reported c f (reportLower c f) (reportUpper c f) (found c f)
   unfolding reportLower reportUpper pathsPass found

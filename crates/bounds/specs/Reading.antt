@@ -8,10 +8,11 @@ use Rattle.csl.specs.Limits.{billion, rateHundredths}
 use Rattle.csl.specs.Formula.{untilOf}
 use Rattle.csl.specs.Chain.{Chain, topRate, load, depth}
 use Rattle.csl.specs.Phase.{Phase, bit}
-use Rattle.csl.specs.Verdicts.{Verdict, No, Yes, Undecided, Decided, asNo, asYes, least, most}
+use Rattle.csl.specs.Verdicts.{Verdict, No, Yes, least, most}
 use Rattle.csl.specs.Until.{untilPhase}
 use Rattle.csl.specs.Path.{AllDecided}
 use Rattle.csl.specs.Ends.{EndsAt}
+use Rattle.csl.specs.Laws.Verdicts.{decided-same}
 use Rattle.csl.specs.Laws.Quotient.{until-starts}
 use Rattle.bounds.specs.Ends.{lowerEnd, end-most}
 use Rattle.bounds.specs.Upper.{upperEnd, left-same}
@@ -27,11 +28,6 @@ bit-most true = omega arith
 bit-most false = omega arith
 
 -- with every operand state decided the two readings are one
-pub decided-same : (x : Verdict) → Decided x → asNo x ≡ asYes x
-decided-same No d = refl
-decided-same Yes d = refl
-decided-same Undecided d = absurd d
-
 decided-rounds : (c : Chain) (v w : ℕ → Verdict) → AllDecided c v → AllDecided c w → (val : ℕ → ℕ → ℕ)
     → Rounds c (untilPhase (most v) (most w)) val → Rounds c (untilPhase (least v) (least w)) val
 decided-rounds c v w d e val r =

@@ -13,11 +13,12 @@ use Rattle.csl.specs.Phase.{bit}
 use Rattle.csl.specs.Verdicts.{Verdict, No, Yes, Undecided, asNo, asYes, least, most}
 use Rattle.csl.specs.Until.{untilPhase, lowQuotient, highQuotient}
 use Rattle.csl.specs.Ends.{EndsAt}
+use Rattle.csl.specs.Laws.Verdicts.{decided-same}
 use Rattle.csl.specs.Laws.PointQuotients.{until-still}
 use Rattle.csl.specs.Laws.PointEnds.{ends-certain, ends-impossible}
 use Rattle.bounds.specs.Width.{mostDepth}
 use Rattle.bounds.specs.StepValues.{Rounds, pointed, untilLowerOf, untilUpperOf}
-use Rattle.bounds.specs.Reading.{decided-same, summedLower, summedUpper, summed-ends}
+use Rattle.bounds.specs.Reading.{summedLower, summedUpper, summed-ends}
 
 -- the ends at state s of an until over t hundredths of an hour, from the rounded values of its two phases; v and w are the operands' verdicts
 abbrev pub untilLower : Chain → ℕ → (v w : ℕ → Verdict) (val : ℕ → ℕ → ℕ) → ℕ → ℕ

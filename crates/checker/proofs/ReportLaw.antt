@@ -2,11 +2,11 @@
 use mathlib.Core.Path.{_≡_, refl, sym, ap, _∙_}
 use mathlib.Core.Bool.{Bool, true, false}
 use mathlib.Core.List.{List, _++_}
-use Prim.Native.Nat.{ℕ, _+_, _-_, _*_, _≤_, _<_}
+use Prim.Native.Nat.{ℕ, _+_, _-_, _*_, _≤_}
 use native.Mathlib.Omega.{arith}
 use native.Mathlib.Nat.{mul-le-mul, mul-le-mul-right}
-use lib.ListN.{length, take, drop, replicate, length-append, length-drop, length-replicate, List·getD-eq-default, List·getD-append}
-use lib.Seq.{length-take-le, getD-take, getD-drop, getD-append-add, ext-getD}
+use lib.ListN.{length, take, drop, replicate, length-drop, length-replicate, List·getD-eq-default}
+use lib.Seq.{length-take-le, getD-take, getD-drop, ext-getD}
 use lib.Dec.{ltb}
 use borrow.Author.Tests.{ltb-true, ltb-false}
 use Rattle.csl.specs.Text.{Text}
@@ -17,6 +17,7 @@ use Rattle.csl.specs.Formula.{nodes, levels}
 use Rattle.csl.specs.Chain.{topRate}
 use Rattle.csl.specs.Lent.{Buffers, column, written}
 use Rattle.numbers.specs.Filled.{at, Table, table-at, table-rest, zeros-written}
+use Rattle.numbers.specs.Part.{front-length, front-at, front-beyond}
 use Rattle.formula.specs.Each.{nodes-some}
 use Rattle.formula.specs.Stored.{levels-nodes}
 use Rattle.formula.specs.declared.nodes.Nodes.{Nodes}
@@ -25,7 +26,7 @@ use Rattle.verdict_rows.specs.Row.{EndsIn}
 use Rattle.results.specs.Column.{column-as}
 use Rattle.refusals.specs.declared.sheet_tests.Dimensions.{Dimensions}
 use Rattle.sheet_words.specs.Stored.{StoreAsked, Stored}
-use Rattle.sheet_words.specs.Shown.{sheet-shown, marks-shown}
+use Rattle.sheet_words.specs.Shown.{sheet-shown, sheet-owns, marks-shown}
 use Rattle.decide.specs.Asked.{DecideAsked, Decides, formulaOf}
 use Rattle.checker.specs.Job.{buffers}
 use Rattle.checker.specs.Report.{chainIn, formulaIn, Ready, DecideAll, Decided, ClearAsked, Cleared, ReportAsked, ReportLeft}
@@ -49,23 +50,6 @@ module _ {m₀ labels : Text} {d : Dimensions} {x : Nodes} (r : Ready m₀ label
 
   pub few-marks : x .count * d .states ≤ mostNodes * mostStates
   few-marks = mul-le-mul (r .few-nodes) few-states
-
--- a list with ys in the place of its first n entries
-module _ (xs ys : List ℕ) (n : ℕ) (h : n ≤ length xs) (e : length ys ≡ length (take n xs)) where
-  many : length ys ≡ n
-  many = e ∙ length-take-le n xs h
-
-  front-length : length (ys ++ drop n xs) ≡ length xs
-  front-length = length-append ys (drop n xs) ∙ omega (arith, many, length-drop n xs)
-
-  front-at : (k : ℕ) → k < n → at (ys ++ drop n xs) k ≡ at ys k
-  front-at k l = List·getD-append ys (drop n xs) 0 k (omega (arith, many))
-
-  front-beyond : (k : ℕ) → n ≤ k → at (ys ++ drop n xs) k ≡ at xs k
-  front-beyond k l =
-      let z : n + (k - n) ≡ k = omega arith in
-      let y : length ys + (k - n) ≡ k = omega (arith, many) in
-      ap (at (ys ++ drop n xs)) (sym y) ∙ getD-append-add ys (drop n xs) (k - n) 0 ∙ getD-drop n xs (k - n) 0 ∙ ap (at xs) z
 
 -- 0 in all places of a front that is cleared, and beyond its end
 pub front-zero : (l₀ l : List ℕ) (n : ℕ) → n ≤ length l → Table (λ _. 0) l₀ l n → (k : ℕ) → at (take n l) k ≡ 0
@@ -123,6 +107,7 @@ module _ {m₀ labels : Text} {d : Dimensions} {x : Nodes} {words₀ vectors₀ 
           few = r .ready .passed .sound .few-names;
           shows = rw (moves-are (r .ready), states-are (r .ready)) (sheet-shown (r .ready .passed) s);
           prepared = rw (moves-are (r .ready), states-are (r .ready), q-is (r .ready)) (s .prepared);
+          owns = rw (states-are (r .ready)) (sheet-owns (r .ready .passed) s);
           marked = rw (states-are (r .ready)) (marks-shown (r .ready .passed) s);
           inside = omega (arith, some, r .ready .few-nodes);
           fits = rw (q-is (r .ready)) (λ k h. r .ready .fits k (omega (arith, some)));

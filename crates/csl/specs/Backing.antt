@@ -2,7 +2,7 @@
 -- the outermost node the report's own." By recursion on the formula: each node has the backings of its operands. Assumes nothing.
 use mathlib.Core.Path.{_≡_}
 use Prim.Native.Nat.{ℕ, _<_}
-use Rattle.csl.specs.Formula.{Formula, always, label, negated, both, chance, Path, until, PathOf, untilOf, Comparison}
+use Rattle.csl.specs.Formula.{Formula, always, label, negated, both, chance, Path, until, nextMove, PathOf, untilOf, nextOf, Comparison}
 use Rattle.csl.specs.Chain.{Chain}
 use Rattle.csl.specs.Verdicts.{Verdict, Yes, marked, negation, conjunction, Sides}
 use Rattle.csl.specs.Path.{FollowsAt, AllDecided}
@@ -25,6 +25,12 @@ pub record BothBacked (c : Chain) (A B : (ℕ → Verdict) → Type 0) (v : ℕ 
   pub second : ℕ → Verdict
   pub second-backed : B second
   pub verdict : AtEach c λ s. v s ≡ conjunction (first s) (second s)
+
+-- a path over one operand with backings A, of which K is kept
+pub record OneBacked (A : (ℕ → Verdict) → Type 0) (K : (v : ℕ → Verdict) → Type 0) : Type 0 where
+  pub first : ℕ → Verdict
+  pub first-backed : A first
+  pub keeps : K first
 
 -- a path over two operands with backings A and B, of which K is kept
 pub record TwoBacked (A B : (ℕ → Verdict) → Type 0) (K : (v w : ℕ → Verdict) → Type 0) : Type 0 where
@@ -57,10 +63,12 @@ abbrev mutual
 
   pub PathBacked : Chain → Path → (PathOf (ℕ → Verdict) → Type 0) → Type 0
   PathBacked c (until t a b) K = TwoBacked (λ x. Backed c a x) (λ x. Backed c b x) λ v w. K (untilOf t v w)
+  PathBacked c (nextMove a) K = OneBacked (λ x. Backed c a x) λ v. K (nextOf v)
 
 -- the operands' verdicts
 abbrev pub operandsOf : (c : Chain) (w : Path) (K : PathOf (ℕ → Verdict) → Type 0) → PathBacked c w K → PathOf (ℕ → Verdict)
 operandsOf c (until t a b) K k = untilOf t (k .first) (k .second)
+operandsOf c (nextMove a) K k = nextOf (k .first)
 
 -- nothing is undecided, at any node and state of a backing
 unfoldable mutual
@@ -75,6 +83,7 @@ unfoldable mutual
   pub NothingUndecidedIn : (c : Chain) (w : Path) (K : PathOf (ℕ → Verdict) → Type 0) → PathBacked c w K → Type 0
   NothingUndecidedIn c (until t a e) K k =
       NothingUndecided c a (k .first) (k .first-backed) × NothingUndecided c e (k .second) (k .second-backed)
+  NothingUndecidedIn c (nextMove a) K k = NothingUndecided c a (k .first) (k .first-backed)
 
 -- Demand 2's rule of sides at every `P` of a backing: this node, where it is one, and every node below it
 unfoldable mutual
@@ -89,3 +98,4 @@ unfoldable mutual
   pub SidesThroughoutIn : (c : Chain) (w : Path) (K : PathOf (ℕ → Verdict) → Type 0) → PathBacked c w K → Type 0
   SidesThroughoutIn c (until t a e) K k =
       SidesThroughout c a (k .first) (k .first-backed) × SidesThroughout c e (k .second) (k .second-backed)
+  SidesThroughoutIn c (nextMove a) K k = SidesThroughout c a (k .first) (k .first-backed)

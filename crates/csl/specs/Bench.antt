@@ -5,7 +5,7 @@ use Prim.Native.String.{String}
 use mathlib.Core.Option.{some}
 use Rattle.csl.specs.Text.{bytes}
 use Rattle.csl.specs.Limits.{mostNodes, hour, mostHundredths, mostRateHundredths, rateHundredths}
-use Rattle.csl.specs.Formula.{Formula, always, label, negated, both, chance, Path, until, AtMost, AtLeast}
+use Rattle.csl.specs.Formula.{Formula, always, label, negated, both, chance, Path, until, nextMove, Less, AtMost, AtLeast, More}
 use Rattle.csl.specs.Fraction.{Fraction, frac, Same}
 use Rattle.csl.specs.Sheet.{sheetOf}
 use Rattle.csl.specs.Chain.{Chain, chainOf}
@@ -42,9 +42,16 @@ dead = label (bytes "dead")
 abbrev pub eight : ℕ
 eight = 8 * hour
 
--- lent lengths that do for two states, one move and any formula
+-- "A tool's restart is a move to its own state": the rate to the own state, and perhaps one to the other
+abbrev pub restarts : String → Job
+restarts formula = jobOf "from,to,rate\n0,0,2\n0,1,1\n" formula
+
+abbrev pub onlyRestarts : String → Job
+onlyRestarts formula = jobOf "from,to,rate\n0,0,64000000\n" formula
+
+-- lent lengths that do for two states, two moves and any formula
 abbrev pub enough : Buffers ℕ
-enough = needed 2 1 mostNodes
+enough = needed 2 2 mostNodes
 
 -- accepted, with this formula, q and depth
 abbrev pub Accepts : Job → Formula → ℕ → ℕ → Type 0
@@ -121,6 +128,36 @@ pub record DecimalHours : Type 0 where
   pub half-load : Accepts (fast "P >= 5 U 0.5 up dead\n") (chance AtLeast 5 (until 50 up dead)) 64000000 104
   pub load-rounded-up : Accepts (fast "P >= 5 U 0.02 up dead\n") (chance AtLeast 5 (until 2 up dead)) 64000000 44
   pub rateHundredths-is : rateHundredths ≡ 100000000
+
+-- The next move, over the small sheet and over sheets with moves to the own state.
+pub record NextMoves : Type 0 where
+  -- "a path formula may also be `X` and a state formula"; "depth is 0"
+  pub next : Accepts (small "P >= 333333334 X dead\n") (chance AtLeast 333333334 (nextMove dead)) 500 0
+  pub next-printed : Prints (small "P >= 333333334 X dead\n")
+      "state,lower,upper,depth,verdict\n0,1000000000,1000000000,0,yes\n1,0,0,0,no\n"
+  pub within-until : Accepts (small "P >= 5 U 8 up P > 5 X dead\n") (chance AtLeast 5 (until eight up (chance More 5 (nextMove dead)))) 500 42
+  pub around-until : Accepts (small "P > 5 X P < 5 U 8 up dead\n") (chance More 5 (nextMove (chance Less 5 (until eight up dead)))) 500 0
+  pub two-operands : Refuses (small "P < 1 X dead up\n") 10
+  pub no-operand : Refuses (small "P < 1 X\n") 10
+  pub hours : Refuses (small "P < 1 X 8 dead\n") 10
+  pub no-threshold : Refuses (small "X dead\n") 10
+  -- its threshold is tested by 13, and there is no 14
+  pub high-threshold : Refuses (small "P < 1000000001 X dead\n") 13
+  pub fast-sheet : Accepts (fast "P >= 5 X dead\n") (chance AtLeast 5 (nextMove dead)) 64000000 0
+  -- moves to the own state "are now read and stored", and "count in the exit rate for `X`": one third, "rounded down", "rounded up"
+  pub restart : Accepts (restarts "P >= 333333334 X dead\n") (chance AtLeast 333333334 (nextMove dead)) 1 0
+  pub restart-printed : Prints (restarts "P >= 333333334 X dead\n")
+      "state,lower,upper,depth,verdict\n0,333333333,333333334,0,undecided\n1,0,0,0,no\n"
+  -- "Until leaves them out of exit rates and q": out of the load, and of 14
+  pub until-restart : Accepts (restarts "P < 1 U 1 up dead\n") (chance Less 1 (until hour up dead)) 1 42
+  pub only-restarts : Accepts (onlyRestarts "P < 1 U 8760 up dead\n") (chance Less 1 (until (8760 * hour) up dead)) 0 40
+  pub only-restarts-printed : Prints (onlyRestarts "P < 1 U 8760 up dead\n")
+      "state,lower,upper,depth,verdict\n0,0,0,40,yes\n1,1000000000,1000000000,40,no\n"
+  -- they count "in 9's sum", and in 6 and 8 like any move
+  pub high-sum : Refuses (jobOf "from,to,rate\n0,0,64000000\n0,1,1\n" "tt\n") 9
+  pub strange-restart : Refuses (jobOf "from,to,rate\n2,2,1\n" "tt\n") 6
+  pub falling-restart : Refuses (jobOf "from,to,rate\n0,1,3\n0,0,2\n" "tt\n") 8
+  pub twice : Refuses (jobOf "from,to,rate\n0,0,2\n0,0,2\n" "tt\n") 8
 
 -- "`P <= 10000000 U 8 up dead`: .. lower ≤ 3,992,010, upper ≥ 3,992,011, width ≤ 168, yes at state 0", of every report
 pub record EightHours (lower upper : ℕ → ℕ) (v : ℕ → Verdict) : Type 0 where

@@ -33,7 +33,8 @@ greatest f (suc n) = max (greatest f n) (f n)
 unfoldable pub away : Chain → ℕ → ℕ → ℕ
 away c s t = cond (eqb s t) 0 (c .rate s t)
 
--- "The exit rate of a state is the sum of the rates out of it."
+-- "The exit rate of a state is the sum of the rates out of it." Of moves to the own state: "Until leaves them out of exit rates and q." (`Next`
+-- has the exit rate that counts them.)
 unfoldable pub exitRate : Chain → ℕ → ℕ
 exitRate c s = sumTo (away c s) (c .states)
 

@@ -14,9 +14,12 @@ frac a b = record { top = a; bottom = b }
 abbrev pub IsFraction : Fraction → Type 0
 IsFraction x = 0 < x .bottom
 
--- at most, and equal, by cross products
+-- at most, less, and equal, by cross products
 abbrev pub Below : Fraction → Fraction → Type 0
 Below x y = x .top * y .bottom ≤ y .top * x .bottom
+
+abbrev pub Beneath : Fraction → Fraction → Type 0
+Beneath x y = x .top * y .bottom < y .top * x .bottom
 
 abbrev pub Same : Fraction → Fraction → Type 0
 Same x y = x .top * y .bottom ≡ y .top * x .bottom
@@ -35,13 +38,19 @@ unfoldable pub sumUp : (ℕ → Fraction) → ℕ → Fraction
 sumUp f zero = f 0
 sumUp f (suc n) = plus (sumUp f n) (f (suc n))
 
--- "rounded up to a whole number"
+-- "rounded up to a whole number", and down to one
 abbrev pub roundUp : Fraction → ℕ
 roundUp x = (x .top + (x .bottom - 1)) / x .bottom
 
--- p billionths, and the m-th part of 1
+abbrev pub roundDown : Fraction → ℕ
+roundDown x = x .top / x .bottom
+
+-- p billionths, how many billionths x is, and the m-th part of 1
 abbrev pub billionths : ℕ → Fraction
 billionths p = frac p billion
+
+abbrev pub inBillionths : Fraction → Fraction
+inBillionths x = frac (x .top * billion) (x .bottom)
 
 abbrev pub part : ℕ → Fraction
 part m = frac 1 m

@@ -12,7 +12,7 @@ use Rattle.csl.specs.Number.{isNumber, valueOf}
 use Rattle.csl.specs.Line.{space, parts, linesOf, firstLine, isEnded}
 use Rattle.csl.specs.Labels.{isWord}
 use Rattle.csl.specs.Hours.{hundredthsOf}
-use Rattle.csl.specs.Formula.{Formula, always, label, negated, both, chance, until, Comparison, Less, AtMost, AtLeast, More}
+use Rattle.csl.specs.Formula.{Formula, always, label, negated, both, chance, until, nextMove, Comparison, Less, AtMost, AtLeast, More}
 
 unfoldable pub tokensOf : Text → List Text
 tokensOf text = parts space (firstLine text)
@@ -45,18 +45,29 @@ unfoldable pub onToken : {A : Type 0} → (Text → Option A) → List Text → 
 onToken spelled [] next = nothing
 onToken spelled (w ∷ ts) next = elim (spelled w) [ none ↦ nothing | some a ↦ next a ts ]
 
--- one word that is fixed
-unfoldable pub onWord : Text → List Text → (List Text → Found) → Found
-onWord x [] next = nothing
-onWord x (w ∷ ts) next = elim (same w x) [ true ↦ next ts | false ↦ nothing ]
+-- one state formula, and two
+unfoldable pub single : Reader → (Formula → Formula) → Reader
+single read make ts = andThen (read ts) λ a rest. found (make a) rest
 
--- two state formulas
 unfoldable pub pair : Reader → (Formula → Formula → Formula) → Reader
 pair read make ts = andThen (read ts) λ a more. andThen (read more) λ b rest. found (make a b) rest
 
--- "A path formula is `U`, .. hours and two state formulas."
+-- how a path formula begins
+pub data PathHead : Type 0 where
+  untils nexts noPath : PathHead
+
+unfoldable pub pathHeadOf : Text → PathHead
+pathHeadOf w = cond (same w (bytes "U")) untils (cond (same w (bytes "X")) nexts noPath)
+
+-- "A path formula is `U`, .. hours and two state formulas"; "a path formula may also be `X` and a state formula".
+unfoldable pub pathBehind : Reader → Comparison → ℕ → PathHead → Reader
+pathBehind read r p untils ts = onToken hundredthsOf ts λ t rest. pair read (λ a b. chance r p (until t a b)) rest
+pathBehind read r p nexts ts = single read (λ a. chance r p (nextMove a)) ts
+pathBehind read r p noPath ts = nothing
+
 unfoldable pub path : Reader → Comparison → ℕ → Reader
-path read r p ts = onWord (bytes "U") ts λ more. onToken hundredthsOf more λ t rest. pair read (λ a b. chance r p (until t a b)) rest
+path read r p [] = nothing
+path read r p (w ∷ ts) = pathBehind read r p (pathHeadOf w) ts
 
 -- how a state formula begins
 pub data Head : Type 0 where
@@ -74,7 +85,7 @@ headOf w =
 unfoldable pub state : Reader → Text → Head → Reader
 state read w truth ts = found always ts
 state read w name ts = found (label w) ts
-state read w bang ts = andThen (read ts) λ a rest. found (negated a) rest
+state read w bang ts = single read negated ts
 state read w ampersand ts = pair read both ts
 state read w chances ts = onToken comparisonOf ts λ r more. onToken numberOf more λ p rest. path read r p rest
 state read w other ts = nothing
@@ -107,3 +118,6 @@ pub data Spells : Formula → List Text → Type 0 where
       → comparisonOf sign ≡ some r → numberOf threshold ≡ some p → hundredthsOf hours ≡ some u
       → Spells a s → Spells b t
       → Spells (chance r p (until u a b)) (bytes "P" ∷ sign ∷ threshold ∷ bytes "U" ∷ hours ∷ s ++ t)
+  spells-next : {a : Formula} {s : List Text} (sign threshold : Text) (r : Comparison) (p : ℕ)
+      → comparisonOf sign ≡ some r → numberOf threshold ≡ some p → Spells a s
+      → Spells (chance r p (nextMove a)) (bytes "P" ∷ sign ∷ threshold ∷ bytes "X" ∷ s)

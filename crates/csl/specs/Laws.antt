@@ -6,12 +6,15 @@ pub mod Fraction
 pub mod Value
 pub mod Steps
 pub mod Quotient
+pub mod Next
 pub mod Point
 pub mod Readings
 pub mod Tail
 pub mod Left
 pub mod PointQuotients
 pub mod PointEnds
+pub mod NextEnds
+pub mod OwnState
 pub mod Enclosure
 pub mod Sides
 pub mod Judging
@@ -22,6 +25,7 @@ pub mod Backing
 pub mod Throughout
 pub mod Grammar
 pub mod Bench
+pub mod BenchNext
 pub mod Trial
 pub mod WholeHours
 pub mod EightHours

@@ -16,6 +16,7 @@ pub mod Limit
 pub mod Verdicts
 pub mod Meaning
 pub mod Until
+pub mod Next
 pub mod Path
 pub mod Ends
 pub mod Backing

@@ -2,14 +2,17 @@
 -- takes away on one side stands added on the other. Assumes nothing.
 use Prim.Native.Nat.{ℕ, _≤_}
 use Rattle.csl.specs.Formula.{Comparison, Less, AtMost, AtLeast, More}
-use Rattle.csl.specs.Fraction.{Fraction, Below, plus, billionths, part}
+use Rattle.csl.specs.Fraction.{Fraction, Below, Beneath, plus, billionths, part}
 
 pub data Value : Type 0 where
+  -- "the exact fraction"
+  exact : (x : Fraction) → Value
   -- the limit of quotients x; d is their depth D
   limit : (d : ℕ) → (x : ℕ → Fraction) → Value
 
--- "all quotients from D on"
+-- "all quotients from D on"; of an exact fraction, that one
 abbrev pub Each : (Fraction → Type 0) → Value → Type 0
+Each P (exact x) = P x
 Each P (limit d x) = (n : ℕ) → d ≤ n → P (x n)
 
 -- "there is a depth from which all quotients are .."
@@ -35,7 +38,15 @@ LimitIs Less p In = ForSome λ m. In λ y. Below (plus y (part m)) (billionths p
 LimitIs AtMost p In = ForEach λ m. In λ y. Below y (plus (billionths p) (part m))
 LimitIs More p In = ForSome λ m. In λ y. Below (plus (billionths p) (part m)) y
 
+-- "For `X` the truth tables compare the exact fraction with the threshold."
+abbrev pub FractionIs : Comparison → ℕ → Fraction → Type 0
+FractionIs AtLeast p x = Below (billionths p) x
+FractionIs Less p x = Beneath x (billionths p)
+FractionIs AtMost p x = Below x (billionths p)
+FractionIs More p x = Beneath (billionths p) x
+
 abbrev pub Holds : Comparison → ℕ → Value → Type 0
+Holds r p (exact x) = FractionIs r p x
 Holds r p (limit d x) = LimitIs r p (FromSome x)
 
 -- the opposite comparison

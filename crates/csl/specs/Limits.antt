@@ -71,6 +71,13 @@ spareSteps = 40
 abbrev pub widthFactor : ℕ
 widthFactor = 4
 
+-- for `X` "the width is at most 1, which here takes the place of 4 × D; .. depth is 0"
+abbrev pub nextWidth : ℕ
+nextWidth = 1
+
+abbrev pub nextDepth : ℕ
+nextDepth = 0
+
 -- "vector words (64 bits) of 10 × n + 512"
 abbrev pub vectorPlaces : ℕ
 vectorPlaces = 10

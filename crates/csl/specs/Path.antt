@@ -1,16 +1,18 @@
 -- What each path formula means, one line for each kind of path; and its value, point ends and verdicts for given operands. Assumes nothing.
 use Prim.Native.Nat.{ℕ, _<_}
 use mathlib.Core.Bool.{Bool}
-use Rattle.csl.specs.Formula.{PathOf, untilOf, Comparison}
+use Rattle.csl.specs.Formula.{PathOf, untilOf, nextOf, Comparison}
 use Rattle.csl.specs.Chain.{Chain}
 use Rattle.csl.specs.Limit.{Value}
 use Rattle.csl.specs.Verdicts.{Verdict, Reading, least, most, Decided}
 use Rattle.csl.specs.Meaning.{Meaning}
 use Rattle.csl.specs.Until.{untilMeaning}
+use Rattle.csl.specs.Next.{nextMeaning}
 
 -- the meaning of a path on a chain
 abbrev pub meaning : {A : Type 0} → Chain → PathOf A → Meaning A
 meaning c (untilOf t a b) = untilMeaning c t a b
+meaning c (nextOf a) = nextMeaning c a
 
 -- the probability of a path at a state, where x says where its operands hold
 abbrev pub valueAt : Chain → PathOf (ℕ → Bool) → ℕ → Value
@@ -36,7 +38,9 @@ AllDecided c v = (s : ℕ) → s < c .states → Decided (v s)
 
 abbrev pub DecidedIn : Chain → PathOf (ℕ → Verdict) → Type 0
 DecidedIn c (untilOf t v w) = AllDecided c v × AllDecided c w
+DecidedIn c (nextOf v) = AllDecided c v
 
 -- "A reading takes each operand at each state for yes or no": x is one of operands with the verdicts in o, on n states
 pub data Reads (n : ℕ) : (o : PathOf (ℕ → Verdict)) → (x : PathOf (ℕ → Bool)) → Type 0 where
   reads-until : (t : ℕ) (v w : ℕ → Verdict) (x y : ℕ → Bool) → Reading n v x → Reading n w y → Reads n (untilOf t v w) (untilOf t x y)
+  reads-next : (v : ℕ → Verdict) (x : ℕ → Bool) → Reading n v x → Reads n (nextOf v) (nextOf x)

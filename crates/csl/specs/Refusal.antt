@@ -67,15 +67,13 @@ manyMoves ms = ltb mostMoves (length ms)
 abbrev pub strangeState : ℕ → List Move → Bool
 strangeState states ms = any (λ m. leb states (m .from) || leb states (m .to)) ms
 
--- 7: "a move to its own state"
-abbrev pub ownState : List Move → Bool
-ownState ms = any (λ m. eqb (m .from) (m .to)) ms
+-- 7, "a move to its own state", "is never given again": "such moves are now read and stored".
 
 -- 8: "moves not rising, or a pair twice"
 unfoldable pub notRising : List Move → Bool
 notRising ms = not (isRising ms)
 
--- 9: "rate 0, or a state's rates over 64,000,000"
+-- 9: "rate 0, or a state's rates over 64,000,000": moves to the own state count "in 9's sum"
 abbrev pub wrongRate : List Move → Bool
 wrongRate ms = any (λ m. eqb (m .rate) 0 || ltb mostRate (ratesOut ms (m .from))) ms
 
@@ -92,7 +90,7 @@ largeFormula f = ltb mostNodes (nodes f) || ltb mostLevels (levels f)
 unfoldable pub strangeLabel : List Text → Formula → Bool
 strangeLabel names f = not (labelsPass (among names) f)
 
--- 13: "threshold over 1,000,000,000 or hours over 8,760"
+-- 13: "threshold over 1,000,000,000 or hours over 8,760"; `X` has no hours
 abbrev pub inBounds : ℕ → PathOf Formula → Bool
 inBounds p o = leb p mostThreshold && timesPass (λ t. leb t mostHundredths) o
 
@@ -123,8 +121,7 @@ unfoldable pub sheetTests : (moves labels : Text) → List Test
 sheetTests moves labels =
     test 1 (outOfBytes sheetBytes moves || outOfBytes sheetBytes labels) ∷ test 2 (brokenLayout moves labels)
     ∷ test 3 (wrongFirstLine moves labels) ∷ test 4 (wrongStates labels) ∷ test 5 (manyMoves (movesOf moves))
-    ∷ test 6 (strangeState (statesOf labels) (movesOf moves)) ∷ test 7 (ownState (movesOf moves)) ∷ test 8 (notRising (movesOf moves))
-    ∷ test 9 (wrongRate (movesOf moves)) ∷ []
+    ∷ test 6 (strangeState (statesOf labels) (movesOf moves)) ∷ test 8 (notRising (movesOf moves)) ∷ test 9 (wrongRate (movesOf moves)) ∷ []
 
 -- those of a formula, if its text spells one, over a sheet that passed and has these label names and this uniformisation rate
 unfoldable pub formulaTests : List Text → ℕ → Option Formula → List Test

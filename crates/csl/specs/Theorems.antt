@@ -12,24 +12,29 @@ use Rattle.csl.specs.Text.{Text, any}
 use Rattle.csl.specs.Limits.{formulaDigits, hour, mostHundredths, mostRateHundredths, widthFactor, spareSteps}
 use Rattle.csl.specs.Number.{isNumber, valueOf}
 use Rattle.csl.specs.Hours.{point, hundredthsOf}
-use Rattle.csl.specs.Formula.{Formula, chance, Path, until, PathOf, untilOf, Comparison, AtMost, AtLeast, More}
+use Rattle.csl.specs.Formula.{Formula, chance, Path, until, nextMove, PathOf, untilOf, nextOf, Comparison, AtMost, AtLeast, More}
 use Rattle.csl.specs.Grammar.{readState, whole, Spells}
 use Rattle.csl.specs.Fraction.{frac, IsFraction, Below, Same, times, sumUp, roundUp, billionths}
-use Rattle.csl.specs.Chain.{Chain, topRate, load, depth}
+use Rattle.csl.specs.Chain.{Chain, exitRate, topRate, load, depth}
 use Rattle.csl.specs.Phase.{divisor, stepTop, stepValue, weight, quotient}
 use Rattle.csl.specs.Limit.{Each}
 use Rattle.csl.specs.Verdicts.{Verdict, Yes, Reading, asNo, Sides}
 use Rattle.csl.specs.Until.{untilPhase, untilQuotient}
-use Rattle.csl.specs.Path.{meaning, valueAt, AllDecided, DecidedIn, Reads, reads-until}
+use Rattle.csl.specs.Next.{nextExitRate, nextFraction, nextLower, nextUpper}
+use Rattle.csl.specs.Path.{meaning, valueAt, AllDecided, DecidedIn, Reads, reads-until, reads-next}
+use Rattle.csl.specs.Ends.{EndsAt}
 use Rattle.csl.specs.Backing.{AtEach, Backed, ChanceKeeps, operandsOf, NothingUndecided, SidesThroughout}
 use Rattle.csl.specs.Truth.{Obeys, Throughout}
 use Rattle.csl.specs.Report.{Reported, backingOf}
 use Rattle.csl.specs.Refusal.{Job, jobChain}
-use Rattle.csl.specs.Bench.{small, up, dead, eight, Accepts, BenchValues, DecimalHours, EightHours, TrialQuotients}
+use Rattle.csl.specs.Bench.{small, up, dead, eight, Accepts, BenchValues, DecimalHours, NextMoves, EightHours, TrialQuotients}
 use Rattle.csl.specs.Laws.Computing.{computing}
 use Rattle.csl.specs.Laws.Fraction.{under-below}
 use Rattle.csl.specs.Laws.Steps.{step-le, step-rises, divisor-some}
 use Rattle.csl.specs.Laws.Quotient.{Implies, until-starts, until-under, until-is, until-le, until-rises, weights-some}
+use Rattle.csl.specs.Laws.Next.{next-is, next-le, next-rises}
+use Rattle.csl.specs.Laws.NextEnds.{ends-next}
+use Rattle.csl.specs.Laws.OwnState.{exit-own, SameElsewhere, exit-same, top-same, depth-same, until-same-elsewhere}
 use Rattle.csl.specs.Laws.Tail.{half-weight, light-from, after}
 use Rattle.csl.specs.Laws.Enclosure.{Encloses, encloses, ordered-ends}
 use Rattle.csl.specs.Laws.Sides.{one-verdict}
@@ -38,6 +43,7 @@ use Rattle.csl.specs.Laws.Backing.{kept-operands}
 use Rattle.csl.specs.Laws.Throughout.{throughout, sides, sides-throughout, Together, backings-agree}
 use Rattle.csl.specs.Laws.Grammar.{read-if-spelled, spelled-if-read}
 use Rattle.csl.specs.Laws.Bench as bench
+use Rattle.csl.specs.Laws.BenchNext as next-bench
 use Rattle.csl.specs.Laws.Trial as trial
 use Rattle.csl.specs.Laws.EightHours as hours
 use Rattle.csl.specs.Laws.WholeHours as without-point
@@ -86,6 +92,25 @@ module _ (c : Chain) (r : Comparison) (p t : ℕ) (a b : Formula) (lower upper :
       → upper s ≤ lower s + widthFactor * depth c t
   intervals-of-an-until-are-narrow i j s l = intervals-are-narrow c r p (until t a b) lower upper v k (i, j) s l
 
+-- The same of a next move: "no reading puts the fraction outside the interval"; "with a decided operand the width is at most 1". Both ends are
+-- determined by the verdicts of the operand.
+module _ (c : Chain) (r : Comparison) (p : ℕ) (a : Formula) (lower upper : ℕ → ℕ) (v : ℕ → Verdict)
+    (k : Reported c (chance r p (nextMove a)) lower upper v) where
+  pub fractions-lie-in-the-interval : (x : ℕ → Bool) → Reading (c .states) (k .first) x → (s : ℕ) → s < c .states
+      → Below (billionths (lower s)) (nextFraction c x s) × Below (nextFraction c x s) (billionths (upper s))
+  fractions-lie-in-the-interval x i s l =
+      values-lie-in-the-interval c r p (nextMove a) lower upper v k (nextOf x) (reads-next (k .first) x i) s l
+
+  pub intervals-of-a-next-move-are-narrow : AllDecided c (k .first) → (s : ℕ) → s < c .states → upper s ≤ lower s + 1
+  intervals-of-a-next-move-are-narrow i s l = intervals-are-narrow c r p (nextMove a) lower upper v k i s l
+
+  pub ends-of-a-next-move : (s : ℕ) → s < c .states → (lower s ≡ nextLower c (k .first) s) × (upper s ≡ nextUpper c (k .first) s)
+  ends-of-a-next-move s l = let e = k .keeps .ends s l .points in (e .lower-is, e .upper-is)
+
+-- and these two keep every rule for ends, whatever the operand's verdicts are
+pub next-moves-have-ends : (c : Chain) (v : ℕ → Verdict) (s : ℕ) → EndsAt c (nextOf v) s (nextLower c v s) (nextUpper c v s)
+next-moves-have-ends c v s = ends-next c v s
+
 -- Demand 2 at every `P` of a backing, inner ones too
 pub verdicts-follow-at-every-node : (c : Chain) (f : Formula) (v : ℕ → Verdict) (k : Backed c f v) → SidesThroughout c f v k
 verdicts-follow-at-every-node c f v k = sides-throughout c f v k
@@ -112,13 +137,16 @@ pub decided-verdicts-are-a-table : (c : Chain) (f : Formula) (v : ℕ → Verdic
 decided-verdicts-are-a-table c f v k d =
     let o : Obeys c f (λ s. asNo (v s)) = verdicts-obey c f v k d in (o, throughout c f v (λ s. asNo (v s)) k o)
 
--- T4. The starred bench values, those of hours with decimals, and `P <= 10000000 U 8 up dead`, of every report that has a backing; and
--- quotients as a second reckoning has them.
+-- T4. The starred bench values, those of hours with decimals, of the next move and of moves to the own state, and `P <= 10000000 U 8 up dead`, of
+-- every report that has a backing; and quotients as a second reckoning has them.
 pub starred-bench-values : BenchValues
 starred-bench-values = bench.bench-values
 
 pub hours-with-decimals : DecimalHours
 hours-with-decimals = bench.decimal-hours
+
+pub next-moves-and-restarts : NextMoves
+next-moves-and-restarts = next-bench.next-moves
 
 pub eight-hours-of-every-report : (lower upper : ℕ → ℕ) (v : ℕ → Verdict)
     → Reported (jobChain (small "P <= 10000000 U 8 up dead\n")) (chance AtMost 10000000 (until eight up dead)) lower upper v → EightHours lower upper v
@@ -154,6 +182,17 @@ module _ (c : Chain) (a b a' b' : ℕ → Bool) (h : Implies (c .states) a a') (
 
   pub quotients-grow-with-the-reading : (t s n : ℕ) → s < c .states → Below (untilQuotient c t a b s n) (untilQuotient c t a' b' s n)
   quotients-grow-with-the-reading t s n l = under-below (until-rises c t a b a' b' h k s n l)
+
+-- the fraction of a next move lies from 0 to 1 and grows with the reading
+module _ (c : Chain) (s : ℕ) where
+  pub next-fractions-are-fractions : (x : ℕ → Bool) → IsFraction (nextFraction c x s)
+  next-fractions-are-fractions x = next-is c x s
+
+  pub next-fractions-are-at-most-1 : (x : ℕ → Bool) → Below (nextFraction c x s) (frac 1 1)
+  next-fractions-are-at-most-1 x = omega (arith, next-le c x s)
+
+  pub next-fractions-grow-with-the-reading : (x y : ℕ → Bool) → Implies (c .states) x y → Below (nextFraction c x s) (nextFraction c y s)
+  next-fractions-grow-with-the-reading x y h = under-below (next-rises c x y s h)
 
 -- "In the last 40 steps up to D, and after, each weight is at most half the one before." The step is k + 1.
 pub weights-halve : (c : Chain) (t k : ℕ) → depth c t ≤ k + spareSteps
@@ -213,6 +252,25 @@ module _ (c : Chain) (t : ℕ) where
   unfolding load
   whole-hours-have-their-quotients first second s n =
       without-point.same-quotient (load c (t * hour)) (frac (topRate c * t) 1000000) (omega arith) (stepValue c (untilPhase first second) s) n
+
+-- T8. Moves to the own state. They "count in the exit rate for `X`", which is that of until and the rate to the own state.
+pub exit-rates-differ-by-the-own-state : (c : Chain) (s : ℕ) → s < c .states → nextExitRate c s ≡ exitRate c s + c .rate s s
+exit-rates-differ-by-the-own-state c s l = exit-own c s l
+
+-- "Until leaves them out of exit rates and q": chains that differ in them alone have the same exit rates, q, depths and quotients.
+module _ (c d : Chain) (e : SameElsewhere c d) where
+  pub until-leaves-out-of-exit-rates : (s : ℕ) → exitRate c s ≡ exitRate d s
+  until-leaves-out-of-exit-rates s = exit-same e s
+
+  pub until-leaves-out-of-q : topRate c ≡ topRate d
+  until-leaves-out-of-q = top-same e
+
+  pub until-leaves-out-of-depths : (t : ℕ) → depth c t ≡ depth d t
+  until-leaves-out-of-depths t = depth-same e t
+
+  pub until-leaves-out-of-quotients : (t : ℕ) (first second : ℕ → Bool) (s n : ℕ)
+      → untilQuotient c t first second s n ≡ untilQuotient d t first second s n
+  until-leaves-out-of-quotients t first second s n = until-same-elsewhere e t first second s n
 
 -- The reader of formulas is the grammar as document 01 lists it: tokens are read as a formula exactly where they spell it, so a text has
 -- at most one reading.

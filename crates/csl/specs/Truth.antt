@@ -3,7 +3,7 @@
 use mathlib.Core.Path.{_≡_}
 use mathlib.Core.Bool.{Bool, true, false, not, _&&_}
 use Prim.Native.Nat.{ℕ}
-use Rattle.csl.specs.Formula.{Formula, always, label, negated, both, chance, Path, until, PathOf, untilOf, Comparison}
+use Rattle.csl.specs.Formula.{Formula, always, label, negated, both, chance, Path, until, nextMove, PathOf, untilOf, nextOf, Comparison}
 use Rattle.csl.specs.Chain.{Chain}
 use Rattle.csl.specs.Limit.{Value, Holds, opposite}
 use Rattle.csl.specs.Verdicts.{Verdict, Reading}
@@ -23,7 +23,8 @@ pub record BothTrue (c : Chain) (A B : (ℕ → Bool) → Type 0) (b : ℕ → B
   pub second-obeys : B second
   pub entry : AtEach c λ s. b s ≡ (first s && second s)
 
--- ".. each `P` entry is yes only where its comparison holds in the limit meaning above and no only where the opposite comparison holds"
+-- ".. each `P` entry is yes only where its comparison holds in the limit meaning above and no only where the opposite comparison holds"; "For `X`
+-- the truth tables compare the exact fraction with the threshold."
 pub record Entry (r : Comparison) (p : ℕ) (x : Value) (b : Bool) : Type 0 where
   pub if-yes : b ≡ true → Holds r p x
   pub if-no : b ≡ false → Holds (opposite r) p x
@@ -31,6 +32,12 @@ pub record Entry (r : Comparison) (p : ℕ) (x : Value) (b : Bool) : Type 0 wher
 -- a `P` over a path whose operands hold where x says
 abbrev pub ChanceObeys : Chain → Comparison → ℕ → (ℕ → Bool) → PathOf (ℕ → Bool) → Type 0
 ChanceObeys c r p b x = AtEach c λ s. Entry r p (valueAt c x s) (b s)
+
+-- a path over one operand with tables A, whose entries keep L
+pub record OneTrue (A : (ℕ → Bool) → Type 0) (L : (x : ℕ → Bool) → Type 0) : Type 0 where
+  pub first : ℕ → Bool
+  pub first-obeys : A first
+  pub entry : L first
 
 -- a path over two operands with tables A and B, whose entries keep L
 pub record TwoTrue (A B : (ℕ → Bool) → Type 0) (L : (x y : ℕ → Bool) → Type 0) : Type 0 where
@@ -51,6 +58,7 @@ abbrev mutual
 
   pub PathObeys : Chain → Path → (PathOf (ℕ → Bool) → Type 0) → Type 0
   PathObeys c (until t a e) L = TwoTrue (λ x. Obeys c a x) (λ x. Obeys c e x) λ x y. L (untilOf t x y)
+  PathObeys c (nextMove a) L = OneTrue (λ x. Obeys c a x) λ x. L (nextOf x)
 
 -- the table agrees with the backing at this node and at every node below it
 unfoldable mutual
@@ -69,3 +77,4 @@ unfoldable mutual
   ThroughoutIn c (until t a e) K L k o =
       Throughout c a (k .first) (o .first) (k .first-backed) (o .first-obeys)
       × Throughout c e (k .second) (o .second) (k .second-backed) (o .second-obeys)
+  ThroughoutIn c (nextMove a) K L k o = Throughout c a (k .first) (o .first) (k .first-backed) (o .first-obeys)

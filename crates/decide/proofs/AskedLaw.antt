@@ -1,22 +1,27 @@
 -- What is asked of a node and of its operands, and what a call leaves. Assumes nothing.
-use mathlib.Core.Path.{_≡_, ap, sym, subst, _∙_}
+use mathlib.Core.Path.{_≡_, refl, ap}
 use mathlib.Core.List.{List}
-use Prim.Native.Nat.{ℕ, suc, _+_, _*_, _-_, _≤_, _<_}
+use Prim.Native.Nat.{ℕ, suc, _+_, _*_, _≤_, _<_}
 use native.Mathlib.Omega.{arith}
 use native.Mathlib.Nat.{mul-le-mul-right}
 use lib.ListN.{length}
 use Rattle.csl.specs.Text.{Text}
-use Rattle.csl.specs.Formula.{Formula, levels}
+use Rattle.csl.specs.Formula.{Formula, levels, levelsIn}
 use Rattle.csl.specs.Formula as csl
 use Rattle.csl.specs.Chain.{Chain}
 use Rattle.numbers.specs.Filled.{at}
 use Rattle.vectors.specs.Places.{marksFrom, EndsStored}
 use Rattle.vectors.specs.Prepared.{Prepared, prepared-kept}
+use Rattle.vectors.specs.Owns.{Owns, owns-kept}
 use Rattle.formula.specs.Nodes.{kindAt}
 use Rattle.formula.specs.FormulaAt.{formulaAt, formulaOver, at-kind}
+use Rattle.formula.specs.Operands.{operandsOf}
+use Rattle.formula.specs.declared.nodes.Path.the-variants as path
 use Rattle.formula.specs.declared.nodes.Kind.{Kind}
+use Rattle.formula.specs.declared.nodes.Kind.the-variants as kind
 use Rattle.formula.specs.declared.nodes.Node.{Node}
 use Rattle.decide.specs.Asked.{Marked, DecideAsked, formulaOf, Decides}
+use Rattle.decide.specs.Rows.{rowsOf}
 
 -- what a call leaves: the node's report, if it was asked
 abbrev pub Leaves : (mv l l' marks marks' : List ℕ) (nodes : List Node) (node limit n q r : ℕ) → Type 0
@@ -44,32 +49,39 @@ marked-kept c names {n = n} m b i h s k = rw (b .after (marksFrom n + s) (omega 
 pub still-prepared : {mv l l' : List ℕ} {n q : ℕ} {f g : ℕ → ℕ} → Prepared mv l n q → EndsStored f g n l l' → Prepared mv l' n q
 still-prepared p b = prepared-kept p (b .same) (λ k h i. b .after k h)
 
-module _ {mv l marks : List ℕ} {nodes : List Node} {node limit n q : ℕ} (a : DecideAsked mv l marks nodes node limit n q) where
+-- a node of two operands has two levels, any other one
+rows-levels : (names : List Text) (look : ℕ → Formula) (k : Kind) → rowsOf (operandsOf k) ≤ levels (formulaOver names look k)
+unfolding levels levelsIn
+rows-levels names look kind.Always = omega arith
+rows-levels names look (kind.Label i) = omega arith
+rows-levels names look (kind.Negated x) = omega arith
+rows-levels names look (kind.Both x y) = omega (arith, levels-some (look x))
+rows-levels names look (kind.Chance c p (path.Until t x y)) = omega (arith, levels-some (look x))
+rows-levels names look (kind.Chance c p (path.Next x)) = omega arith
+
+pub still-owns : {c : Chain} {l l' : List ℕ} {n : ℕ} {f g : ℕ → ℕ} → Owns c l n → EndsStored f g n l l' → Owns c l' n
+still-owns o b = owns-kept o (b .after)
+
+module _ {mv l marks : List ℕ} {nodes : List Node} {node limit n q : ℕ} (a : DecideAsked mv l marks nodes node (suc limit) n q) where
   -- rows for as many levels, and the node's own
   pub room-for : (k : ℕ) → k ≤ levels (formulaOf a) → k * n ≤ length marks
   room-for k h = omega (arith, a .room, mul-le-mul-right n h)
 
-  pub own-row : n ≤ length marks
-  own-row = omega (arith, room-for 1 (levels-some (formulaOf a)))
-
-  -- words for two ends of each state
-  pub own-ends : n + n ≤ length l
-  own-ends = omega (arith, a .prepared .rates .long)
-
   -- the formula of an operand
   abbrev pub under : ℕ → Formula
-  under x = formulaAt (a .names) (limit - 1) nodes x
+  under x = formulaAt (a .names) limit nodes x
 
   -- an operand is asked, with a level less, of other words and marks
-  abbrev pub operand : (x : ℕ) (l' m : List ℕ) → x < node → Prepared mv l' n q → Marked (a .c) (a .names) l' n → levels (under x) ≤ limit - 1
-      → levels (under x) * n ≤ length m → ((k : ℕ) → n ≤ k → at m k ≡ 0) → DecideAsked mv l' m nodes x (limit - 1) n q
-  operand x l' m h prepared marked deep room clear =
+  abbrev pub operand : (x : ℕ) (l' m : List ℕ) → x < node → Prepared mv l' n q → Owns (a .c) l' n → Marked (a .c) (a .names) l' n → levels (under x) ≤ limit
+      → levels (under x) * n ≤ length m → ((k : ℕ) → n ≤ k → at m k ≡ 0) → DecideAsked mv l' m nodes x limit n q
+  operand x l' m h prepared owns marked deep room clear =
       record {
         c = a .c;
         names = a .names;
         few = a .few;
         shows = a .shows;
         prepared = prepared;
+        owns = owns;
         marked = marked;
         inside = omega (arith, a .inside);
         fits = λ k i. a .fits k (omega arith);
@@ -78,13 +90,10 @@ module _ {mv l marks : List ℕ} {nodes : List Node} {node limit n q : ℕ} (a :
         clear = clear;
       }
 
-  module _ (some : limit ≡ 0 → ⊥) where
-    -- the node's formula, by its kind
-    pub of-kind : (k : Kind) → kindAt nodes node ≡ k → formulaOf a ≡ formulaOver (a .names) under k
-    of-kind k e =
-        let step : limit ≡ suc (limit - 1) = omega arith in
-        ap (λ (z : ℕ). formulaAt (a .names) z nodes node) step ∙ at-kind (a .names) (limit - 1) nodes node k e
+  -- the node's formula, by its kind
+  pub of-kind : (k : Kind) → kindAt nodes node ≡ k → formulaOf a ≡ formulaOver (a .names) under k
+  of-kind k e = at-kind (a .names) limit nodes node k e
 
-    pub is-decided : {f : Formula} {l' m : List ℕ} {r : ℕ} → formulaOf a ≡ f → Decides (a .c) f n l l' marks m r
-        → Decides (a .c) (formulaOf a) n l l' marks m r
-    is-decided {l' = l'} {m = m} {r = r} e x = subst (λ z. Decides (a .c) z n l l' marks m r) (sym e) x
+  -- it has at least as many levels as its operands take rows
+  pub rows-most : rowsOf (operandsOf (kindAt nodes node)) ≤ levels (formulaOf a)
+  rows-most = omega (arith, ap levels (of-kind (kindAt nodes node) refl), rows-levels (a .names) under (kindAt nodes node))

@@ -1,104 +1,55 @@
--- The report of a `P`: the ends that until leaves are those of the verdicts in its two rows, and the row is judged by them. Assumes nothing.
-use mathlib.Core.Path.{_≡_, refl, ap, sym, _∙_}
+-- The report of a `P`, by the kind of its path. Assumes nothing.
+use mathlib.Core.Path.{_≡_}
 use mathlib.Core.List.{List}
-use Prim.Native.Nat.{ℕ, _+_, _*_, _≤_, _<_}
+use Prim.Native.Nat.{ℕ, _*_, _≤_}
 use native.Mathlib.Omega.{arith}
 use lib.ListN.{length}
+use borrow.Author.Tests.{leb-true}
+use Rattle.csl.specs.Limits.{mostRateHundredths}
 use Rattle.csl.specs.Formula.{Comparison}
-use Rattle.csl.specs.Chain.{Chain, topRate, load, depth}
-use Rattle.csl.specs.Until.{untilPhase}
-use Rattle.csl.specs.Verdicts.{Verdict, least, most}
-use Rattle.numbers.specs.Filled.{at, Table, Filled, filled-as}
-use Rattle.bounds.specs.Width.{mostDepth}
-use Rattle.bounds.specs.StepValues.{Rounds}
-use Rattle.bounds.specs.Found.{lowerFound, upperFound, lower-found, upper-found, ends-found}
-use Rattle.verdicts.specs.Byte.{verdictAt}
-use Rattle.rate_matrix.specs.Shown.{top-shown}
-use Rattle.vectors.specs.Places.{EndsStored}
-use Rattle.verdict_rows.specs.Row.{EndsIn}
-use Rattle.verdict_rows.specs.Byte.{judgedByte}
-use Rattle.phase.specs.Value.{valueOf}
-use Rattle.until.specs.Reading.{verdicts, lowPhase, highPhase}
-use Rattle.until.specs.Asked.{Until}
-use Rattle.until.specs.Shown.{low-rounds, high-rounds, depth-shown, lower-shown, upper-shown}
-use Rattle.decide.specs.Kinds.{ChanceAsked, ChanceLeaves}
-use Rattle.numbers.specs.Part.{rest, rest-at}
-use Rattle.decide.proofs.RowsLaw.{row-cleared}
-use Rattle.decide.proofs.ReportLaw.{ends-in}
+use Rattle.formula.specs.Nodes.{pathMeant}
+use Rattle.formula.specs.Operands.{operandsIn}
+use Rattle.formula.specs.declared.nodes.Path.{Path}
+use Rattle.formula.specs.declared.nodes.Path.the-variants as path
+use Rattle.decide.specs.Rows.{RowsHold}
+use Rattle.decide.specs.Chance.{UntilAsked, UntilLeaves, NextAsked, NextLeaves, ChanceAsked, ChanceLeaves}
 
--- rounded values for verdicts are those for equal verdicts
-module _ (c : Chain) (x y v w : ℕ → Verdict) (h : (s : ℕ) → s < c .states → x s ≡ v s) (k : (s : ℕ) → s < c .states → y s ≡ w s) where
-  rounds-least : (val : ℕ → ℕ → ℕ) → Rounds c (untilPhase (least x) (least y)) val → Rounds c (untilPhase (least v) (least w)) val
-  rounds-least val r =
-      record {
-        start = λ s l. r .start s l ∙ rw (k s l) refl;
-        next = λ i s l. r .next i s l ∙ rw (h s l, k s l) refl;
-      }
+module _ {mv l marks : List ℕ} {o : Path} {p n q : ℕ} (a : ChanceAsked mv l marks o p n q) where
+  module _ {t x y : ℕ} (e : o ≡ path.Until t x y) where
+    abbrev pub may-until : UntilAsked mv l marks n q t p
+    may-until =
+        record {
+          c = a .c;
+          shows = a .shows;
+          prepared = a .prepared;
+          load = leb-true (q * t) mostRateHundredths (rw e at (a .load));
+          threshold = a .threshold;
+          held = let h : 2 * n ≤ length marks = rw e at (a .held) in omega arith;
+        }
 
-  rounds-most : (val : ℕ → ℕ → ℕ) → Rounds c (untilPhase (most x) (most y)) val → Rounds c (untilPhase (most v) (most w)) val
-  rounds-most val r =
-      record {
-        start = λ s l. r .start s l ∙ rw (k s l) refl;
-        next = λ i s l. r .next i s l ∙ rw (h s l, k s l) refl;
-      }
+    pub until-decided : {r : Comparison} {l' m : List ℕ} {d : ℕ} → ((b : UntilAsked mv l marks n q t p) → UntilLeaves b r l' m d) → ChanceLeaves a r l' m d
+    until-decided {r} {l'} {m} {d} u vs h =
+        let rows : RowsHold (operandsIn (pathMeant (path.Until t x y))) vs marks n = rw e at h in
+        let z = u may-until (vs x) (vs y) (rows .0) (rows .1) in
+        rw e (record { row = z .rows; report = z .report })
 
-module _ {mv l l' marks : List ℕ} {n q t p d : ℕ} (a : ChanceAsked mv l marks n q t p) (u : Until mv marks (rest marks n) n q t l l' d) where
-  top : q ≡ topRate (a .c)
-  top = a .prepared .rates .top ∙ sym (top-shown (a .shows))
+  module _ {x : ℕ} (e : o ≡ path.Next x) where
+    abbrev pub may-next : NextAsked mv l marks n p
+    may-next =
+        record {
+          c = a .c;
+          q = q;
+          shows = a .shows;
+          prepared = a .prepared;
+          owns = a .owns;
+          threshold = a .threshold;
+          held = let h : 1 * n ≤ length marks = rw e at (a .held) in omega arith;
+        }
 
-  -- the depth is one that the ends are known for
-  shallow : depth (a .c) t ≤ mostDepth
-  unfolding depth load
-  shallow = omega (arith, a .load, ap (λ (z : ℕ). z * t) top)
+    pub next-decided : {r : Comparison} {l' m : List ℕ} {d : ℕ} → ((b : NextAsked mv l marks n p) → NextLeaves b r l' m d) → ChanceLeaves a r l' m d
+    next-decided {r} {l'} {m} {d} u vs h =
+        let row : RowsHold (operandsIn (pathMeant (path.Next x))) vs marks n = rw e at h in
+        let z = u may-next (vs x) row in
+        rw e (record { row = z .row; report = z .report })
 
-  -- two rows that hold the verdicts v and w
-  module _ (v w : ℕ → Verdict) (h : (s : ℕ) → s < n → verdictAt (at marks s) ≡ v s) (k : (s : ℕ) → s < n → verdictAt (at marks (n + s)) ≡ w s) where
-    here : (s : ℕ) → s < a .c .states → s < n
-    here s b = omega (arith, a .shows .states)
-
-    there : (s : ℕ) → s < n → s < a .c .states
-    there s b = omega (arith, a .shows .states)
-
-    behind : (s : ℕ) → s < n → verdicts (rest marks n) s ≡ w s
-    behind s b = ap verdictAt (rest-at marks n s) ∙ k s b
-
-    lower-is : (s : ℕ) → s < n → at l' s ≡ lowerFound (a .c) t v w s
-    lower-is s b =
-        lower-shown (a .shows) (a .prepared .rates .top) u s b
-        ∙ rw (h s b, behind s b)
-        (lower-found (a .c) t v w (valueOf mv (length mv) q (lowPhase marks (rest marks n))) s (there s b)
-        (λ z. rounds-least (a .c) (verdicts marks) (verdicts (rest marks n)) v w (λ g m. h g (here g m)) (λ g m. behind g (here g m)) _
-        (low-rounds (a .shows) (a .prepared .rates .top) u)))
-
-    upper-is : (s : ℕ) → s < n → at l' (n + s) ≡ upperFound (a .c) t v w s
-    upper-is s b =
-        upper-shown (a .shows) (a .prepared .rates .top) u s b
-        ∙ rw (h s b, behind s b)
-        (upper-found (a .c) t v w (valueOf mv (length mv) q (highPhase marks (rest marks n))) s (there s b)
-        (λ z. rounds-most (a .c) (verdicts marks) (verdicts (rest marks n)) v w (λ g m. h g (here g m)) (λ g m. behind g (here g m)) _
-        (high-rounds (a .shows) (a .prepared .rates .top) u)))
-
-    ends-are : EndsStored (lowerFound (a .c) t v w) (upperFound (a .c) t v w) n l l'
-    ends-are = record { same = u .ends .same; lowers = lower-is; uppers = upper-is; after = u .ends .after }
-
-    ends-range : EndsIn n l'
-    ends-range =
-        ends-in ends-are (omega (arith, a .prepared .rates .long)) (λ s b. ends-found (a .c) t v w shallow s (there s b) .lower-range)
-        (λ s b. ends-found (a .c) t v w shallow s (there s b) .upper-range)
-
-  -- so the row may be judged
-  pub ends-left : EndsIn n l'
-  ends-left = ends-range (λ s. verdictAt (at marks s)) (λ s. verdictAt (at marks (n + s))) (λ s b. refl) (λ s b. refl)
-
--- and is, for whatever verdicts the rows hold
-module _ {mv l l' marks m₁ m₂ : List ℕ} {n q t p d : ℕ} {r : Comparison} (u : Until mv marks (rest marks n) n q t l l' d)
-    (j : Table (λ s. judgedByte r p (at l' s) (at l' (n + s))) marks m₁ n) (z : Filled (λ s. 0) n n m₁ m₂) where
-  pub chance-left : (a : ChanceAsked mv l marks n q t p) → ChanceLeaves a r l' m₂ d
-  unfolding judgedByte
-  chance-left a v w h k =
-      record {
-        rows = row-cleared (filled-as _ (λ s b. rw (lower-is a u v w h k s b, upper-is a u v w h k s b) refl) j) z;
-        ends = ends-are a u v w h k;
-        range = ends-range a u v w h k;
-        deep = depth-shown (a .shows) (a .prepared .rates .top) u;
-      }
+pub ruleset chance-laws = (may-until, until-decided, may-next, next-decided)

@@ -8,7 +8,7 @@ use Rattle.numbers.specs.Filled.{at, Table, Filled, filled-as}
 use Rattle.vectors.specs.Places.{marksFrom}
 use Rattle.verdict_rows.specs.Byte.{labelByte, joinedByte}
 use Rattle.until.specs.Asked.{Still}
-use Rattle.decide.specs.Kinds.{Plain, BothLeaves}
+use Rattle.decide.specs.Plain.{Plain, BothLeaves}
 use Rattle.numbers.specs.Part.{rest, back, rest-at, part-filled}
 use Rattle.decide.proofs.RowsLaw.{row-cleared}
 

@@ -1,168 +1,135 @@
--- What deciding a node asks of each call, and what it leaves when they are done: kind by kind, from what was asked, a number of levels that is
--- not 0, the kind that was read and what the calls leave. Assumes nothing.
-use mathlib.Core.Path.{_≡_, ap, _∙_}
+-- The report of a node, by its kind, from what its operands' rows hold. Assumes nothing.
+use mathlib.Core.Path.{_≡_, ap, sym, _∙_}
 use mathlib.Core.Bool.{and-eq-true-iff}
 use mathlib.Core.List.{List, []}
-use Prim.Native.Nat.{ℕ, _+_, _*_, _-_, _≤_, _<_}
+use Prim.Native.Nat.{ℕ, _+_, _*_, _≤_, _<_}
 use native.Mathlib.Omega.{arith}
+use native.Mathlib.Nat.{zero-add}
 use lib.ListN.{length, getD}
 use lib.Dec.{leb}
 use borrow.Author.Tests.{leb-true, ltb-true}
-use Rattle.csl.specs.Limits.{mostThreshold, mostHundredths, mostRateHundredths}
-use Rattle.csl.specs.Formula.{levels, levelsIn}
+use Rattle.csl.specs.Limits.{mostThreshold}
+use Rattle.csl.specs.Formula.{Formula, mapped}
 use Rattle.csl.specs.Formula as csl
-use Rattle.numbers.specs.Filled.{at, table-at}
-use Rattle.bounds.specs.Found.{found}
-use Rattle.verdicts.specs.Byte.{verdictAt, byte-read}
+use Rattle.csl.specs.Chain.{Chain}
+use Rattle.csl.specs.Verdicts.{conjunction}
+use Rattle.csl.specs.Report.{depthOf}
+use Rattle.csl.specs.Lent.{verdictByte}
+use Rattle.numbers.specs.Filled.{at, table-at, filled-as, Twin}
+use Rattle.bounds.specs.Found.{found, foundIn, reportLower, reportUpper}
 use Rattle.verdicts.specs.Paper.{comparisonOf}
 use Rattle.verdicts.specs.declared.comparison.Comparison as code
 use Rattle.vectors.specs.Places.{marksFrom}
 use Rattle.verdict_rows.specs.Byte.{labelByte, negatedByte}
-use Rattle.formula.specs.Nodes.{kindAt}
-use Rattle.formula.specs.declared.nodes.Kind.the-variants as kind
-use Rattle.formula.specs.declared.nodes.Node.{Node}
+use Rattle.formula.specs.Nodes.{pathMeant}
+use Rattle.formula.specs.Operands.{operandsIn, operandsOf}
+use Rattle.formula.specs.FormulaAt.{formulaOver, pathOver}
 use Rattle.formula.specs.declared.nodes.Path.{Path}
-use Rattle.decide.specs.Asked.{DecideAsked, formulaOf, Decides}
-use Rattle.decide.specs.Kinds.{LabelAsked, ChanceAsked, ChanceLeaves, Plain, PlainAsked, BothAsked, BothLeaves}
-use Rattle.numbers.specs.Part.{rest, back}
-use Rattle.decide.proofs.ReportLaw.{plain-decides, plain-as, decides-over, row-over, chance-decides, label-byte, negated-byte, joined-byte}
-use Rattle.decide.proofs.AskedLaw.{Leaves, leaves-none, still-prepared, room-for, own-row, own-ends, under, operand, of-kind, is-decided}
-use Rattle.decide.proofs.TwoLaw.{Two, first-asked, second-asked, ends-kept, rows-first, rows-second, rows-held, rows-merged}
+use Rattle.formula.specs.declared.nodes.Path.the-variants as path
+use Rattle.formula.specs.declared.nodes.Kind.{Kind}
+use Rattle.formula.specs.declared.nodes.Kind.the-variants as kind
+use Rattle.formula.specs.declared.operands.Operands.{Operands}
+use Rattle.formula.specs.declared.operands.Operands.the-variants.{None, One, Two}
+use Rattle.decide.specs.Rows.{rowsOf, RowsHold}
+use Rattle.decide.specs.Plain.{PlainAsked, LabelAsked, BothAsked, Plain, BothLeaves}
+use Rattle.decide.specs.Chance.{ChanceAsked, ChanceDecided, ChanceLeaves}
+use Rattle.decide.specs.Node.{NodeAsked, NodeDecided, NodeLeaves}
+use Rattle.decide.proofs.ReportLaw.{plain-decides, label-byte, negated-byte, joined-byte}
 
-module _ {mv l marks : List ℕ} {nodes : List Node} {node limit n q : ℕ} (a : DecideAsked mv l marks nodes node limit n q) (some : limit ≡ 0 → ⊥) where
+own-row : (o : Operands) (n : ℕ) → n ≤ rowsOf o * n
+own-row None n = omega arith
+own-row (One x) n = omega arith
+own-row (Two x y) n = omega arith
+
+-- the report of a `P` is that of its path
+chance-report : (c : Chain) (r : csl.Comparison) (p : ℕ) (look : ℕ → Formula) (o : Path) {n : ℕ} {l l' m m' : List ℕ} {d : ℕ}
+    → ChanceDecided c r p o (λ x. found c (look x)) n l l' m m' d
+    → NodeDecided c (csl.chance r p (pathOver (mapped look (pathMeant o)))) (operandsIn (pathMeant o)) n l l' m m' d
+unfolding found foundIn reportLower reportUpper depthOf
+chance-report c r p look (path.Until t x y) z =
+    record { row = z .row; ends = z .report .ends; range = z .report .range; deep = z .report .deep }
+chance-report c r p look (path.Next x) z = record { row = z .row; ends = z .report .ends; range = z .report .range; deep = z .report .deep }
+
+module _ {mv l marks : List ℕ} {k : Kind} {n q : ℕ} (a : NodeAsked mv l marks k n q) where
+  by-kind : {l' m : List ℕ} {r : ℕ} (g : Kind) → k ≡ g
+      → ((look : ℕ → Formula) → RowsHold (operandsOf g) (λ x. found (a .c) (look x)) marks n
+      → NodeDecided (a .c) (formulaOver (a .names) look g) (operandsOf g) n l l' marks m r)
+      → NodeLeaves a l' m r
+  by-kind g e f look h = rw e (f look (rw e at h))
+
+  long : n + n ≤ length l
+  long = omega (arith, a .prepared .rates .long)
+
+  pub may-plain : PlainAsked l marks n
+  may-plain =
+      record { states = a .prepared .rates .lines .states; long = a .prepared .rates .long; held = omega (arith, own-row (operandsOf k) n, a .held) }
+
   -- `tt`
-  pub always-decided : {l' m : List ℕ} {r : ℕ} → kindAt nodes node ≡ kind.Always → Plain (λ s. 1) n l l' marks m r
-      → Decides (a .c) (formulaOf a) n l l' marks m r
+  pub always-left : {l' m : List ℕ} {r : ℕ} → k ≡ kind.Always → Plain (λ s. 1) n l l' marks m r → NodeLeaves a l' m r
   unfolding found
-  always-decided e t = is-decided a some (of-kind a some kind.Always e) (plain-decides (a .c) csl.always tt (own-ends a) t)
-
-  pub may-always : PlainAsked l marks n
-  may-always = record { states = a .prepared .rates .lines .states; long = a .prepared .rates .long; held = own-row a }
+  always-left e t =
+      by-kind kind.Always e λ look h. plain-decides (a .c) csl.always None tt long (t .row) (λ s b. table-at (t .row) s b) (t .ends) (t .deep)
 
   -- a label
-  module _ {place : ℕ} (e : kindAt nodes node ≡ kind.Label place) where
+  module _ {place : ℕ} (e : k ≡ kind.Label place) where
     known : place < length (a .names)
-    known = ltb-true place (length (a .names)) (rw e at (a .fits node (omega arith) .label))
+    known = ltb-true place (length (a .names)) (rw e at (a .label))
 
     pub may-label : LabelAsked l marks place n
-    may-label = record { plain = may-always; below = omega (arith, known, a .few) }
+    may-label = record { plain = may-plain; below = omega (arith, known, a .few) }
 
-    pub label-decided : {l' m : List ℕ} {r : ℕ} → Plain (λ s. labelByte (at l (marksFrom n + s)) place) n l l' marks m r
-        → Decides (a .c) (formulaOf a) n l l' marks m r
+    pub label-left : {l' m : List ℕ} {r : ℕ} → Plain (λ s. labelByte (at l (marksFrom n + s)) place) n l l' marks m r → NodeLeaves a l' m r
     unfolding found
-    label-decided t =
-        is-decided a some (of-kind a some (kind.Label place) e)
-        (plain-decides (a .c) (csl.label (getD (a .names) place [])) tt (own-ends a)
-        (plain-as _ (λ s h. label-byte (at l (marksFrom n + s)) place (a .marked place known s h)) t))
+    label-left t =
+        by-kind (kind.Label place) e λ look h.
+        let row = filled-as _ (λ s b. label-byte (at l (marksFrom n + s)) place (a .marked place known s b)) (t .row) in
+        plain-decides (a .c) (csl.label (getD (a .names) place [])) None tt long row (λ s b. table-at row s b) (t .ends) (t .deep)
 
-  -- `!`: its operand goes into its own row
-  module _ {x : ℕ} (e : kindAt nodes node ≡ kind.Negated x) where
-    pub not-levels : levels (formulaOf a) ≡ 1 + levels (under a x)
-    unfolding levels
-    not-levels = ap levels (of-kind a some (kind.Negated x) e)
-
-    abbrev pub may-operand : DecideAsked mv l marks nodes x (limit - 1) n q
-    may-operand =
-        operand a x l marks (rw e at (a .fits node (omega arith) .before)) (a .prepared) (a .marked) (omega (arith, not-levels, a .deep))
-        (room-for a (levels (under a x)) (omega (arith, not-levels))) (a .clear)
-
-    module _ {l₁ m₁ : List ℕ} {r₁ : ℕ} (u : Leaves mv l l₁ marks m₁ nodes x (limit - 1) n q r₁) where
-      pub may-negate : PlainAsked l₁ m₁ n
-      may-negate =
-          let v = u may-operand in
-          record {
-            states = a .prepared .rates .lines .states;
-            long = omega (arith, a .prepared .rates .long, v .ends .same);
-            held = omega (arith, own-row a, v .row .same);
-          }
-
-      pub not-decided : {l₂ m₂ : List ℕ} {r : ℕ} → Plain (λ s. negatedByte (at m₁ s)) n l₁ l₂ m₁ m₂ r
-          → Decides (a .c) (formulaOf a) n l l₂ marks m₂ r
-      unfolding found
-      not-decided t =
-          let v = u may-operand in
-          is-decided a some (of-kind a some (kind.Negated x) e)
-          (decides-over (v .ends) (plain-decides (a .c) (csl.negated (under a x)) tt (v .range .long)
-          (row-over (v .row) (plain-as _ (λ s h. negated-byte (found (a .c) (under a x) s) (table-at (v .row) s h)) t))))
+  -- `!`
+  pub negated-left : {x : ℕ} {l' m : List ℕ} {r : ℕ} → k ≡ kind.Negated x → Plain (λ s. negatedByte (at marks s)) n l l' marks m r → NodeLeaves a l' m r
+  unfolding found
+  negated-left {x} e t =
+      by-kind (kind.Negated x) e λ look h.
+      let row = filled-as _ (λ s b. negated-byte (found (a .c) (look x) s) (at marks s) (h s b)) (t .row) in
+      plain-decides (a .c) (csl.negated (look x)) (One x) tt long row (λ s b. table-at row s b) (t .ends) (t .deep)
 
   -- `&`
-  module _ {x y : ℕ} (e : kindAt nodes node ≡ kind.Both x y) where
-    pub both-two : Two a x y
-    unfolding levels
-    both-two =
-        let o : (x < node) × (y < node) = rw e at (a .fits node (omega arith) .before) in
-        (o .0, o .1, ap levels (of-kind a some (kind.Both x y) e))
+  module _ {x y : ℕ} (e : k ≡ kind.Both x y) where
+    pub may-both : BothAsked l marks n
+    may-both = record { plain = may-plain; held = let h : 2 * n ≤ length marks = rw e at (a .held) in omega arith }
 
-    abbrev pub may-first : DecideAsked mv l marks nodes x (limit - 1) n q
-    may-first = first-asked a x y both-two
-
-    module _ {l₁ l₂ m₁ ys : List ℕ} {r₁ r₂ : ℕ} (u : Leaves mv l l₁ marks m₁ nodes x (limit - 1) n q r₁)
-        (w : Leaves mv l₁ l₂ (rest m₁ n) ys nodes y (limit - 1) n q r₂) where
-      pub may-join : BothAsked l₂ (back m₁ n ys) n
-      may-join =
-          record {
-            plain = record {
-              states = a .prepared .rates .lines .states;
-              long = omega (arith, a .prepared .rates .long, ends-kept a x y both-two u w .same);
-              held = omega (arith, rows-held a x y both-two u w);
-            };
-            held = rows-held a x y both-two u w;
-          }
-
-      pub both-decided : {l₃ m₃ : List ℕ} {r : ℕ} → BothLeaves n l₂ l₃ (back m₁ n ys) m₃ r → Decides (a .c) (formulaOf a) n l l₃ marks m₃ r
-      unfolding found
-      both-decided t =
-          is-decided a some (of-kind a some (kind.Both x y) e)
-          (decides-over (ends-kept a x y both-two u w)
-          (plain-decides (a .c) (csl.both (under a x) (under a y)) tt (w (second-asked a x y both-two u) .range .long)
-          (plain-as _
-          (λ s h. joined-byte (found (a .c) (under a x) s) (found (a .c) (under a y) s)
-          (rows-first a x y both-two u w s h) (rows-second a x y both-two u w s h))
-          (record { row = rows-merged a x y both-two u w (t .rows); ends = t .ends; deep = t .deep }))))
+    pub both-left : {l' m : List ℕ} {r : ℕ} → BothLeaves n l l' marks m r → NodeLeaves a l' m r
+    unfolding found
+    both-left {l'} {m} t =
+        by-kind (kind.Both x y) e λ look h.
+        let row : Twin (λ s. verdictByte (conjunction (found (a .c) (look x) s) (found (a .c) (look y) s))) (λ _. 0) 0 n n marks m
+        = record {
+          same = t .rows .same;
+          first = λ s b.
+              t .rows .first s b
+              ∙ joined-byte (found (a .c) (look x) s) (found (a .c) (look y) s) (at marks s) (at marks (n + s)) (h .0 s b) (h .1 s b);
+          second = t .rows .second;
+          else = t .rows .else;
+        } in
+        plain-decides (a .c) (csl.both (look x) (look y)) (Two x y) {m₀ = marks} {m = m} tt long row
+        (λ s b. ap (at m) (sym (zero-add s)) ∙ row .first s b) (t .ends) (t .deep)
 
   -- `P`
-  module _ {sign : code.Comparison} {p : ℕ} {path : Path} (e : kindAt nodes node ≡ kind.Chance sign p path) where
-    pub chance-two : Two a (path .first) (path .second)
-    unfolding levels levelsIn
-    chance-two =
-        let o : (path .first < node) × (path .second < node) = rw e at (a .fits node (omega arith) .before) in
-        (o .0, o .1, ap levels (of-kind a some (kind.Chance sign p path) e))
+  module _ {sign : code.Comparison} {p : ℕ} {o : Path} (e : k ≡ kind.Chance sign p o) where
+    abbrev pub may-chance : ChanceAsked mv l marks o p n q
+    may-chance =
+        record {
+          c = a .c;
+          shows = a .shows;
+          prepared = a .prepared;
+          owns = a .owns;
+          load = rw e at (a .load);
+          threshold = leb-true p mostThreshold (and-eq-true-iff (leb p mostThreshold) _ .0 (rw e at (a .limits)) .0);
+          held = rw e at (a .held);
+        }
 
-    pub light : q * path .hundredths ≤ mostRateHundredths
-    light = leb-true (q * path .hundredths) mostRateHundredths (rw e at (a .fits node (omega arith) .load))
+    pub chance-left : {l' m : List ℕ} {r : ℕ} → ((b : ChanceAsked mv l marks o p n q) → ChanceLeaves b (comparisonOf sign) l' m r) → NodeLeaves a l' m r
+    chance-left t =
+        by-kind (kind.Chance sign p o) e λ look h. chance-report (a .c) (comparisonOf sign) p look o (t may-chance (λ x. found (a .c) (look x)) h)
 
-    pub within : p ≤ mostThreshold
-    within =
-        let o = and-eq-true-iff (leb p mostThreshold) (leb (path .hundredths) mostHundredths) .0 (rw e at (a .fits node (omega arith) .limits)) in
-        leb-true p mostThreshold (o .0)
-
-    abbrev pub may-left : DecideAsked mv l marks nodes (path .first) (limit - 1) n q
-    may-left = first-asked a (path .first) (path .second) chance-two
-
-    module _ {l₁ l₂ m₁ ys : List ℕ} {r₁ r₂ : ℕ} (u : Leaves mv l l₁ marks m₁ nodes (path .first) (limit - 1) n q r₁)
-        (w : Leaves mv l₁ l₂ (rest m₁ n) ys nodes (path .second) (limit - 1) n q r₂) where
-      abbrev pub may-chance : ChanceAsked mv l₂ (back m₁ n ys) n q (path .hundredths) p
-      may-chance =
-          record {
-            c = a .c;
-            shows = a .shows;
-            prepared = still-prepared (a .prepared) (ends-kept a (path .first) (path .second) chance-two u w);
-            load = light;
-            threshold = within;
-            held = rows-held a (path .first) (path .second) chance-two u w;
-          }
-
-      pub chance-decided : {l₃ m₃ : List ℕ} {r : ℕ}
-          → ((b : ChanceAsked mv l₂ (back m₁ n ys) n q (path .hundredths) p) → ChanceLeaves b (comparisonOf sign) l₃ m₃ r)
-          → Decides (a .c) (formulaOf a) n l l₃ marks m₃ r
-      chance-decided t =
-          let z = t may-chance (found (a .c) (under a (path .first))) (found (a .c) (under a (path .second)))
-          (λ s h. ap verdictAt (rows-first a (path .first) (path .second) chance-two u w s h)
-          ∙ byte-read (found (a .c) (under a (path .first)) s))
-          (λ s h. ap verdictAt (rows-second a (path .first) (path .second) chance-two u w s h)
-          ∙ byte-read (found (a .c) (under a (path .second)) s)) in
-          is-decided a some (of-kind a some (kind.Chance sign p path) e)
-          (decides-over (ends-kept a (path .first) (path .second) chance-two u w)
-          (chance-decides z (rows-merged a (path .first) (path .second) chance-two u w (z .rows))))
-
-pub ruleset decide-laws = (leaves-none, may-always, always-decided, may-label, label-decided, may-operand, may-first, may-left)
+pub ruleset node-laws = (may-plain, always-left, may-label, label-left, negated-left, may-both, both-left, may-chance, chance-left)

@@ -16,8 +16,10 @@ use Rattle.bounds.specs.Found.{found, reportLower, reportUpper}
 use Rattle.rate_matrix.specs.Shown.{Shows}
 use Rattle.vectors.specs.Places.{marksFrom, EndsStored}
 use Rattle.vectors.specs.Prepared.{Prepared}
+use Rattle.vectors.specs.Owns.{Owns}
 use Rattle.verdict_rows.specs.Row.{EndsIn}
-use Rattle.formula.specs.Nodes.{kindAt, OperandsBefore}
+use Rattle.formula.specs.Nodes.{kindAt}
+use Rattle.formula.specs.Operands.{OperandsBefore}
 use Rattle.formula.specs.FormulaAt.{formulaAt}
 use Rattle.formula.specs.Pass.{passed}
 use Rattle.formula.specs.declared.nodes.Kind.{Kind}
@@ -36,13 +38,14 @@ pub record NodeFits (names : List Text) (q k : ℕ) (x : Kind) : Type 0 where
   pub load : passed (Load q) x ≡ true
 
 -- A node is to be decided whose formula has no more levels than the limit: the words are prepared for a chain c whose labels have these names,
--- and the marks have a row for each level, all of which but the first hold 0.
+-- its rates to the own state are in their column, and the marks have a row for each level, all of which but the first hold 0.
 pub record DecideAsked (mv l marks : List ℕ) (nodes : List Node) (node limit n q : ℕ) : Type 0 where
   pub c : Chain
   pub names : List Text
   pub few : length names ≤ mostNames
   pub shows : Shows c mv (length mv) n
   pub prepared : Prepared mv l n q
+  pub owns : Owns c l n
   pub marked : Marked c names l n
   pub inside : node < mostNodes
   pub fits : (k : ℕ) → k ≤ node → NodeFits names q k (kindAt nodes k)

@@ -7,7 +7,8 @@ use native.Mathlib.Omega.{arith}
 use lib.ListN.{length}
 use borrow.Author.Count.{below-more}
 use Rattle.csl.specs.Text.{Text}
-use Rattle.formula.specs.Nodes.{kindAt, OperandsBefore}
+use Rattle.formula.specs.Nodes.{kindAt}
+use Rattle.formula.specs.Operands.{OperandsBefore}
 use Rattle.formula.specs.Pass.{allBelow, placePassed, allPassed}
 use Rattle.formula.specs.declared.nodes.Nodes.{Nodes}
 use Rattle.formula.specs.declared.pass.Test.the-variants.{Labels, Limits, Load}

@@ -3,10 +3,13 @@
 // The report is left in lent memory. The marks begin with the node's row of n verdict bytes; the first 2 * n vector words are its ends, the
 // lower ones and then the upper ones; the answer is its depth. A node's operands are decided first, the one into the node's own row and the
 // other into the next, so that a formula needs as many rows as it has levels. The rows behind a node's own hold 0 before and after.
+mod chance;
 mod node;
+mod plain;
+mod rows;
 
-use formula::Kind;
 use formula::Nodes;
+use formula::Operands;
 ghost use Rattle.decide.specs.Asked.{DecideAsked, formulaOf, Decides};
 
 // The report of a node whose formula has at most so many levels.
@@ -30,28 +33,16 @@ pub fn decide(
     let below = levels - 1;
     let x = formula.nodes[node];
     let kind = x.kind;
-    match kind {
-        Kind::Always => node::always(vectors, marks, n),
-        Kind::Label(place) => node::label(vectors, place, marks, n),
-        Kind::Negated(a) => {
+    match formula::operands_of(kind) {
+        Operands::None => node::report(kind, moves, vectors, marks, n, q),
+        Operands::One(a) => {
             decide(formula, a, below, moves, vectors, marks, n, q);
-            node::negated(vectors, marks, n)
+            node::report(kind, moves, vectors, marks, n, q)
         }
-        Kind::Both(a, b) => {
+        Operands::Two(a, b) => {
             decide(formula, a, below, moves, vectors, marks, n, q);
             decide(formula, b, below, moves, vectors, &mut marks[n..], n, q);
-            node::both(vectors, marks, n)
-        }
-        Kind::Chance {
-            comparison: sign,
-            threshold,
-            path,
-        } => {
-            let a = path.first;
-            let b = path.second;
-            decide(formula, a, below, moves, vectors, marks, n, q);
-            decide(formula, b, below, moves, vectors, &mut marks[n..], n, q);
-            node::chance(moves, vectors, marks, n, q, path, sign, threshold)
+            node::report(kind, moves, vectors, marks, n, q)
         }
     }
 }

@@ -1,5 +1,6 @@
 // The deepest formula texts, and a few small ones, read and tested: a line `ok` for each that comes out as worked out by hand.
 use formula::Kind;
+use formula::Path;
 use formula::Test;
 
 // A line for each thing that is tried.
@@ -44,9 +45,14 @@ fn until(text: &[u8], asked: u64, time: u64) {
             comparison: _,
             threshold,
             path,
-        } => say(
-            threshold == asked && path.hundredths == time && path.first == 0 && path.second == 1,
-        ),
+        } => match path {
+            Path::Until {
+                hundredths,
+                first,
+                second,
+            } => say(threshold == asked && hundredths == time && first == 0 && second == 1),
+            Path::Next(_) => say(false),
+        },
         Kind::Always => say(false),
         Kind::Label(_) => say(false),
         Kind::Negated(_) => say(false),
@@ -54,7 +60,33 @@ fn until(text: &[u8], asked: u64, time: u64) {
     }
 }
 
-// 255 times `!` before a label; 127 times `&` before 128 labels.
+// The outermost of the two nodes of a next move has this threshold.
+fn next_move(text: &[u8], asked: u64) {
+    let r = formula::read(text, b",up,dead");
+    let row = r.nodes;
+    let x = row.nodes[1];
+    let k = x.kind;
+    match k {
+        Kind::Chance {
+            comparison: _,
+            threshold,
+            path,
+        } => match path {
+            Path::Next(place) => say(threshold == asked && place == 0),
+            Path::Until {
+                hundredths: _,
+                first: _,
+                second: _,
+            } => say(false),
+        },
+        Kind::Always => say(false),
+        Kind::Label(_) => say(false),
+        Kind::Negated(_) => say(false),
+        Kind::Both(_, _) => say(false),
+    }
+}
+
+// 255 times `!` before a label; 127 times `&` before 128 labels; 63 times `P < 1 X` before a label.
 fn deepest() {
     sized(
         b"! ! ! ! ! ! ! ! ! ! ! ! ! ! ! ! ! ! ! ! ! ! ! ! ! ! ! ! ! ! ! ! ! ! ! ! ! ! ! ! ! ! ! ! ! ! ! ! ! ! ! ! ! ! ! ! ! ! ! ! ! ! ! ! ! ! ! ! ! ! ! ! ! ! ! ! ! ! ! ! ! ! ! ! ! ! ! ! ! ! ! ! ! ! ! ! ! ! ! ! ! ! ! ! ! ! ! ! ! ! ! ! ! ! ! ! ! ! ! ! ! ! ! ! ! ! ! ! ! ! ! ! ! ! ! ! ! ! ! ! ! ! ! ! ! ! ! ! ! ! ! ! ! ! ! ! ! ! ! ! ! ! ! ! ! ! ! ! ! ! ! ! ! ! ! ! ! ! ! ! ! ! ! ! ! ! ! ! ! ! ! ! ! ! ! ! ! ! ! ! ! ! ! ! ! ! ! ! ! ! ! ! ! ! ! ! ! ! ! ! ! ! ! ! ! ! ! ! ! ! ! ! ! ! ! ! ! ! ! ! ! ! ! ! ! ! ! ! ! ! ! ! ! ! ! a\n",
@@ -65,6 +97,11 @@ fn deepest() {
         b"& & & & & & & & & & & & & & & & & & & & & & & & & & & & & & & & & & & & & & & & & & & & & & & & & & & & & & & & & & & & & & & & & & & & & & & & & & & & & & & & & & & & & & & & & & & & & & & & & & & & & & & & & & & & & & & & & & & & & & & & & & & & & & & a a a a a a a a a a a a a a a a a a a a a a a a a a a a a a a a a a a a a a a a a a a a a a a a a a a a a a a a a a a a a a a a a a a a a a a a a a a a a a a a a a a a a a a a a a a a a a a a a a a a a a a a a a a a a a a a a a a a a a a a a a a a a a a a\n",
         255,
         128,
+    );
+    sized(
+        b"P < 1 X P < 1 X P < 1 X P < 1 X P < 1 X P < 1 X P < 1 X P < 1 X P < 1 X P < 1 X P < 1 X P < 1 X P < 1 X P < 1 X P < 1 X P < 1 X P < 1 X P < 1 X P < 1 X P < 1 X P < 1 X P < 1 X P < 1 X P < 1 X P < 1 X P < 1 X P < 1 X P < 1 X P < 1 X P < 1 X P < 1 X P < 1 X P < 1 X P < 1 X P < 1 X P < 1 X P < 1 X P < 1 X P < 1 X P < 1 X P < 1 X P < 1 X P < 1 X P < 1 X P < 1 X P < 1 X P < 1 X P < 1 X P < 1 X P < 1 X P < 1 X P < 1 X P < 1 X P < 1 X P < 1 X P < 1 X P < 1 X P < 1 X P < 1 X P < 1 X P < 1 X P < 1 X P < 1 X a\n",
+        64,
+        64,
     );
 }
 
@@ -110,6 +147,25 @@ fn wrong_hours() {
     broken(b"P < 1 U 8.125 up dead\n");
     broken(b"P < 1 U 8.2.5 up dead\n");
     broken(b"P < 1.5 U 8 up dead\n");
+}
+
+// What is no next move: without an operand, with two, with hours, in a small letter, without a `P`.
+fn wrong_moves() {
+    broken(b"P < 1 X\n");
+    broken(b"P < 1 X up dead\n");
+    broken(b"P < 1 X 8 up\n");
+    broken(b"P < 1 x up\n");
+    broken(b"X up\n");
+}
+
+// Next moves: their threshold is tested, and there are no hours to test.
+fn moves() {
+    next_move(b"P < 1 X up\n", 1);
+    sized(b"P < 1 X & a ! P > 2 X b\n", 6, 5);
+    tested(b"P < 1000000000 X up\n", 2, true, true, true);
+    tested(b"P < 1000000001 X up\n", 2, true, false, true);
+    tested(b"P < 1 X gas\n", 2, false, true, true);
+    tested(b"P < 1 U 8 P < 1 X up dead\n", 4, true, true, false);
 }
 
 // Hours, read as hundredths.
@@ -162,7 +218,9 @@ fn main() {
     wrong();
     wrong_numbers();
     wrong_hours();
+    wrong_moves();
     hours();
+    moves();
     plain();
     refused();
 }

@@ -9,12 +9,13 @@ use mathlib.Core.Option.{none, some}
 use Prim.Native.Nat.{ℕ, _+_, _*_, _≤_, _<_}
 use Rattle.csl.specs.Limits.{widthFactor}
 use Rattle.csl.specs.Moves.{ratesOut}
-use Rattle.csl.specs.Formula.{Formula, chance, Path, until, PathOf, Comparison}
+use Rattle.csl.specs.Formula.{Formula, chance, Path, until, nextMove, PathOf, Comparison}
 use Rattle.csl.specs.Fraction.{Below, billionths}
 use Rattle.csl.specs.Chain.{Chain, exitRate, topRate, depth}
 use Rattle.csl.specs.Limit.{Each}
 use Rattle.csl.specs.Verdicts.{Verdict, Reading, asNo, Sides}
 use Rattle.csl.specs.Until.{untilQuotient}
+use Rattle.csl.specs.Next.{nextExitRate, nextFraction, nextLower, nextUpper}
 use Rattle.csl.specs.Path.{meaning, valueAt, AllDecided, DecidedIn, Reads}
 use Rattle.csl.specs.Backing.{Backed, ChanceKeeps, operandsOf, NothingUndecided, SidesThroughout}
 use Rattle.csl.specs.Truth.{Obeys, Throughout, ThroughoutIn}
@@ -23,6 +24,7 @@ use Rattle.csl.specs.Lent.{Buffers, lengths}
 use Rattle.csl.specs.Refusal.{Job, jobMoves, jobChain, jobFormula, refusal, accepted, outcome}
 use Rattle.csl.specs.Finished.{Answer, refusedWith, acceptedWith, Finished}
 use Rattle.csl.specs.Theorems as theorems
+use Rattle.accepted.specs.Rates.{others}
 use Rattle.demands.specs.Proved as proved
 use Rattle.demands.specs.Proved.{TheReport, agrees-here}
 
@@ -33,6 +35,10 @@ module _ (j : Job) (before : Buffers (List ℕ)) (a : Answer) (after : Buffers (
       ⊎ ((lower : ℕ → ℕ) × (upper : ℕ → ℕ) × (v : ℕ → Verdict) × (a ≡ acceptedWith (depthOf (jobChain j) (jobFormula j)))
       × TheReport j before after lower upper v)
   one-report-or-one-number = proved.one-answer j before a after finished
+
+  -- and 7 "is never given again"
+  pub seven-is-never-given : a ≡ refusedWith 7 → ⊥
+  seven-is-never-given h = proved.not-seven j before a after finished h
 
   -- Demand 2. "Read and decided as 01 defines: accepted when layouts and limits hold and only then; .. depth .. exact". The number is that of
   -- the first test that holds; the chain, with its rates and labels, and the formula are those of the texts (csl's jobChain, jobFormula).
@@ -51,9 +57,13 @@ pub decided-at-its-rate : (j : Job) (lent : Buffers ℕ) → refusal j lent ≡ 
     → outcome j lent ≡ accepted (jobChain j) (jobFormula j) (topRate (jobChain j)) (depthOf (jobChain j) (jobFormula j))
 decided-at-its-rate j lent h = proved.outcome-by j lent h
 
--- and each exit rate is the sum of the rates on the state's lines
-pub exit-rates-by-lines : (j : Job) (lent : Buffers ℕ) → refusal j lent ≡ none → (s : ℕ) → exitRate (jobChain j) s ≡ ratesOut (jobMoves j) s
-exit-rates-by-lines j lent h s = proved.exit-by-lines j lent h s
+-- and each exit rate is the sum of the rates on the state's lines: for until, on those that go to other states; for `X`, on all
+module _ (j : Job) (lent : Buffers ℕ) (h : refusal j lent ≡ none) (s : ℕ) where
+  pub exit-rates-by-lines : exitRate (jobChain j) s ≡ ratesOut (others (jobMoves j)) s
+  exit-rates-by-lines = proved.exit-by-lines j lent h s
+
+  pub next-exit-rates-by-lines : nextExitRate (jobChain j) s ≡ ratesOut (jobMoves j) s
+  next-exit-rates-by-lines = proved.next-exit-by-lines j lent h s
 
 -- "yes when the interval lies wholly on the threshold's true side, no when wholly on the false side, else undecided": at every `P` of every
 -- backing, and for the outermost `P` with the ends of the report
@@ -70,7 +80,8 @@ module _ (c : Chain) (r : Comparison) (p : ℕ) (w : Path) (lower upper : ℕ �
 
 -- Demand 3. "Every accepted job's report has a backing" (TheReport, above), "and for every backing, at every state: the outermost until's
 -- quotient at every depth from D on, for every reading, lies in the interval; width at most 4 × D billionths where no operand state is
--- undecided": of the report of a `P` over any path, whose backing k is any. A value is its quotients from D on (csl's `Each`, `valueAt`).
+-- undecided": of the report of a `P` over any path, whose backing k is any. A value is its quotients from D on, or an exact fraction (csl's
+-- `Each`, `valueAt`).
 module _ (c : Chain) (r : Comparison) (p : ℕ) (w : Path) (lower upper : ℕ → ℕ) (v : ℕ → Verdict)
     (k : Reported c (chance r p w) lower upper v) where
   abbrev pub operands : PathOf (ℕ → Verdict)
@@ -95,6 +106,20 @@ module _ (c : Chain) (r : Comparison) (p t : ℕ) (f g : Formula) (lower upper :
       → upper s ≤ lower s + widthFactor * depth c t
   every-interval-of-an-until-is-narrow i h s l = theorems.intervals-of-an-until-are-narrow c r p t f g lower upper v k i h s l
 
+-- and of a next move, with its fraction, its operand and its two ends named: "no reading puts the fraction outside the interval"; "with a decided
+-- operand the width is at most 1"
+module _ (c : Chain) (r : Comparison) (p : ℕ) (f : Formula) (lower upper : ℕ → ℕ) (v : ℕ → Verdict)
+    (k : Reported c (chance r p (nextMove f)) lower upper v) (s : ℕ) (in-range : s < c .states) where
+  pub every-fraction-is-enclosed : (x : ℕ → Bool) → Reading (c .states) (k .first) x
+      → Below (billionths (lower s)) (nextFraction c x s) × Below (nextFraction c x s) (billionths (upper s))
+  every-fraction-is-enclosed x i = theorems.fractions-lie-in-the-interval c r p f lower upper v k x i s in-range
+
+  pub every-interval-of-a-next-move-is-narrow : AllDecided c (k .first) → upper s ≤ lower s + 1
+  every-interval-of-a-next-move-is-narrow i = theorems.intervals-of-a-next-move-are-narrow c r p f lower upper v k i s in-range
+
+  pub both-ends-are-determined : (lower s ≡ nextLower c (k .first) s) × (upper s ≡ nextUpper c (k .first) s)
+  both-ends-are-determined = theorems.ends-of-a-next-move c r p f lower upper v k s in-range
+
 -- "every truth table that obeys CSL's rules agrees with each yes and no, nested formulas included; with nothing undecided the verdicts are
 -- such a table": of every backing. That of a report is csl's `backingOf`.
 module _ (c : Chain) (f : Formula) (v : ℕ → Verdict) (k : Backed c f v) where
@@ -104,7 +129,7 @@ module _ (c : Chain) (f : Formula) (v : ℕ → Verdict) (k : Backed c f v) wher
   pub decided-verdicts-are-a-table : NothingUndecided c f v k → (o : Obeys c f (λ s. asNo (v s))) × Throughout c f v (λ s. asNo (v s)) k o
   decided-verdicts-are-a-table d = theorems.decided-verdicts-are-a-table c f v k d
 
--- so the verdicts that any backing of a report gives the operands of its until agree with every such table
+-- so the verdicts that any backing of a report gives the operands of its until, and of its next move, agree with every such table
 module _ (c : Chain) (r : Comparison) (p t : ℕ) (f g : Formula) (lower upper : ℕ → ℕ) (v : ℕ → Verdict)
     (k : Reported c (chance r p (until t f g)) lower upper v) (table : ℕ → Bool) (o : Obeys c (chance r p (until t f g)) table) where
   pub first-operand-agrees : Reading (c .states) (k .first) (o .first)
@@ -118,3 +143,11 @@ module _ (c : Chain) (r : Comparison) (p t : ℕ) (f g : Formula) (lower upper :
   second-operand-agrees =
       agrees-here c g (k .second) (o .second) (k .second-backed) (o .second-obeys)
       (every-table-agrees c (chance r p (until t f g)) v (backingOf c (chance r p (until t f g)) lower upper v k) table o .1 .1)
+
+module _ (c : Chain) (r : Comparison) (p : ℕ) (f : Formula) (lower upper : ℕ → ℕ) (v : ℕ → Verdict)
+    (k : Reported c (chance r p (nextMove f)) lower upper v) (table : ℕ → Bool) (o : Obeys c (chance r p (nextMove f)) table) where
+  pub operand-agrees : Reading (c .states) (k .first) (o .first)
+  unfolding Throughout ThroughoutIn backingOf
+  operand-agrees =
+      agrees-here c f (k .first) (o .first) (k .first-backed) (o .first-obeys)
+      (every-table-agrees c (chance r p (nextMove f)) v (backingOf c (chance r p (nextMove f)) lower upper v k) table o .1)

@@ -1,5 +1,5 @@
 -- What the demands say of the answer, from what a finished job is. Assumes nothing.
-use mathlib.Core.Path.{_≡_, refl, sym, _∙_}
+use mathlib.Core.Path.{_≡_, refl, ap, sym, _∙_}
 use mathlib.Core.Bool.{Bool}
 use mathlib.Core.List.{List}
 use mathlib.Core.Logic.{_⊎_, inl, inr}
@@ -11,6 +11,7 @@ use Rattle.csl.specs.Moves.{ratesOut}
 use Rattle.csl.specs.Formula.{Formula, always, label, negated, both, chance, nodes}
 use Rattle.csl.specs.Chain.{Chain, exitRate, topRate}
 use Rattle.csl.specs.Verdicts.{Verdict, Reading}
+use Rattle.csl.specs.Next.{nextExitRate}
 use Rattle.csl.specs.Backing.{Backed}
 use Rattle.csl.specs.Truth.{Obeys, Throughout}
 use Rattle.csl.specs.Report.{Reported, depthOf}
@@ -18,9 +19,10 @@ use Rattle.csl.specs.Lent.{Buffers, lengths, filled}
 use Rattle.csl.specs.Refusal.{Job, jobSheet, jobStates, jobMoves, jobChain, jobFormula, refusal, textRefusal, textTests, firstOf, accepted, outcome, outcomeBy}
 use Rattle.csl.specs.Finished.{Answer, refusedWith, acceptedWith, Finished, FinishedBy}
 use Rattle.accepted.specs.Order.{first-found}
+use Rattle.accepted.specs.Rates.{others}
 use Rattle.accepted.specs.Rates as rates
 use Rattle.accepted.specs.Sheet.{Sound}
-use Rattle.accepted.specs.Job.{refusal-number-some, refusal-number-most, passed}
+use Rattle.accepted.specs.Job.{refusal-number-some, refusal-number-most, refusal-number-not-7, passed}
 
 -- a report with its backing, in the buffers
 abbrev pub TheReport : Job → (before after : Buffers (List ℕ)) → (lower upper : ℕ → ℕ) → (ℕ → Verdict) → Type 0
@@ -30,6 +32,9 @@ TheReport j before after lower upper v =
 
 differ : {A : Type 0} (k d : ℕ) (a : Answer) → a ≡ refusedWith k → a ≡ acceptedWith d → A
 differ k d a h i = let z : _≡_ {A = ℕ} 0 1 = cc in absurd (omega arith)
+
+same-number : (k n : ℕ) (a : Answer) → a ≡ refusedWith k → a ≡ refusedWith n → k ≡ n
+same-number k n a h i = cc
 
 module _ (j : Job) (before : Buffers (List ℕ)) (a : Answer) (after : Buffers (List ℕ)) where
   -- by whether a test holds
@@ -62,6 +67,13 @@ module _ (j : Job) (before : Buffers (List ℕ)) (a : Answer) (after : Buffers (
       go none e = refl
       go (some k) e = differ k d a e h
 
+  pub not-seven : Finished j before a after → a ≡ refusedWith 7 → ⊥
+  not-seven f h = go (refusal j (lengths before)) refl (said _ (by f))
+    where
+      go : (o : Option ℕ) → refusal j (lengths before) ≡ o → Said o → ⊥
+      go none e k = differ 7 _ a h k
+      go (some n) e k = refusal-number-not-7 j (lengths before) (e ∙ ap (λ (x : ℕ). some x) (same-number n 7 a k h))
+
   answered : (o : Option ℕ) → refusal j (lengths before) ≡ o → By o
       → ((number : ℕ) × (a ≡ refusedWith number) × (1 ≤ number) × (number ≤ 15) × (after ≡ before))
       ⊎ ((lower : ℕ → ℕ) × (upper : ℕ → ℕ) × (v : ℕ → Verdict) × (a ≡ acceptedWith (depthOf (jobChain j) (jobFormula j)))
@@ -91,10 +103,14 @@ module _ (j : Job) (lent : Buffers ℕ) (h : refusal j lent ≡ none) where
       go none e = refl
       go (some k) e = absurd (Option·some-ne-none k (sym (first-found (textTests j) _ k e) ∙ h))
 
-  pub exit-by-lines : (s : ℕ) → exitRate (jobChain j) s ≡ ratesOut (jobMoves j) s
-  exit-by-lines s =
-      let k : Sound (jobSheet j) = passed j texts-pass .sheet .sound in
-      rates.exit-by-lines (jobSheet j) (k .within) (k .apart) s
+  sound : Sound (jobSheet j)
+  sound = passed j texts-pass .sheet .sound
+
+  pub exit-by-lines : (s : ℕ) → exitRate (jobChain j) s ≡ ratesOut (others (jobMoves j)) s
+  exit-by-lines s = rates.exit-by-lines (jobSheet j) (sound .within) s
+
+  pub next-exit-by-lines : (s : ℕ) → nextExitRate (jobChain j) s ≡ ratesOut (jobMoves j) s
+  next-exit-by-lines s = rates.next-exit-by-lines (jobSheet j) (sound .within) s
 
 -- a table that agrees at every node agrees at the node itself
 pub agrees-here : (c : Chain) (f : Formula) (v : ℕ → Verdict) (b : ℕ → Bool) (k : Backed c f v) (o : Obeys c f b) → Throughout c f v b k o

@@ -1,13 +1,13 @@
 -- The size of a state formula, by the kind of its first token. Assumes nothing.
-use mathlib.Core.Path.{_≡_, refl, sym, _∙_, ap}
+use mathlib.Core.Path.{_≡_, sym, _∙_, ap}
 use Prim.Native.Nat.{ℕ, _+_}
 use native.Mathlib.Omega.{arith}
 use mathlib.Core.List.{[], _∷_, headD}
 use lib.ListN.{length}
 use Rattle.csl.specs.Text.{Text}
 use Rattle.csl.specs.Line.{space}
-use Rattle.csl.specs.Formula.{negated, nodes, levels}
-use Rattle.csl.specs.Grammar.{Found, nothing, found, andThen, path, headOf, state}
+use Rattle.csl.specs.Formula.{nodes, levels}
+use Rattle.csl.specs.Grammar.{path, headOf, state}
 use Rattle.grammar.specs.Fixed.{read, read-next}
 use Rattle.verdicts.specs.Paper.{comparisonOf}
 use Rattle.verdicts.specs.declared.comparison.Comparison.{Comparison}
@@ -20,20 +20,15 @@ use Rattle.grammar.specs.declared.head.Head.the-variants.{Truth, Name, Bang, Am
 use Rattle.grammar.specs.Chance.{BoundRead}
 use Rattle.grammar.specs.declared.chance.Bound.{Bound}
 use Rattle.grammar.specs.declared.chance.Bound.the-variants as bound
-use Rattle.formula.specs.Size.{sizeOf, overOne, SizeFits}
+use Rattle.formula.specs.Size.{sizeOf, SizeFits}
 use Rattle.formula.specs.declared.size.Size.{Size}
 use Rattle.formula.specs.declared.size.Size.the-variants.{Read, Wrong}
-use Rattle.formula.proofs.FitsLaw.{fits-wider, fits-one, fits-none}
-use Rattle.formula.proofs.PairLaw.{Stated, Paired, Pathed}
+use Rattle.formula.proofs.FitsLaw.{fits-wider, fits-none}
+use Rattle.formula.proofs.PairLaw.{Stated, Singled, Paired, Pathed}
 
 -- what `size_headed` promises
 abbrev pub Headed : Text → Text → Size → Type 0
 Headed w s r = (r ≡ sizeOf (state read w (headOf w) (tokens s))) × SizeFits r (1 + (length w + length s))
-
-over-found : (fd : Found) → overOne (sizeOf fd) ≡ sizeOf (andThen fd λ a rest. found (negated a) rest)
-unfolding andThen nodes levels
-over-found nothing = refl
-over-found (found f rest) = refl
 
 -- h is the kind of the first token w
 module _ (w s : Text) (h : Head) (told : (headMeant h ≡ headOf w) × HeadFits h (length w)) where
@@ -49,11 +44,9 @@ module _ (w s : Text) (h : Head) (told : (headMeant h ≡ headOf w) × HeadFits 
   unfolding state nodes levels
   headed-name e = let f = rw e at (told .1) in (rw (← (told .0), e, bytes-behind), (omega arith, omega arith, omega arith))
 
-  pub headed-bang : (a r : Size) → h ≡ Bang → Stated s a → r ≡ overOne a → Headed w s r
+  pub headed-bang : (r : Size) → h ≡ Bang → Singled s r → Headed w s r
   unfolding state
-  headed-bang a r e q o =
-      let f = rw e at (told .1) in
-      (rw (← (told .0), e, o, q .0) (over-found (read (tokens s))), rw o (fits-wider (overOne a) _ _ (fits-one a _ (q .1)) (omega arith)))
+  headed-bang r e q = let f = rw e at (told .1) in (rw (← (told .0), e) (q .0), fits-wider r _ _ (q .1) (omega arith))
 
   pub headed-ampersand : (r : Size) → h ≡ Ampersand → Paired s r → Headed w s r
   unfolding state

@@ -9,7 +9,7 @@ use Rattle.csl.specs.Line.{space}
 use Rattle.csl.specs.Limits.{mostNodes}
 use Rattle.csl.specs.Formula as csl
 use Rattle.csl.specs.Grammar as grammar
-use Rattle.csl.specs.Grammar.{Found, nothing, found, andThen, pair, path, headOf, state, truth, name, bang, ampersand, chances, other}
+use Rattle.csl.specs.Grammar.{Found, nothing, found, andThen, single, pair, path, headOf, state, truth, name, bang, ampersand, chances, other}
 use Rattle.grammar.specs.Left.{Leaves, none-read, left}
 use Rattle.grammar.specs.Fixed.{read, read-leaves}
 use Rattle.verdicts.specs.Paper.{comparisonOf}
@@ -17,24 +17,27 @@ use Rattle.verdicts.specs.declared.comparison.Comparison.{Comparison}
 use Rattle.verdicts.specs.declared.comparison.Comparison.the-variants.{Less, AtMost, AtLeast, More}
 use Rattle.texts.specs.Behind.{afterPart}
 use Rattle.texts.specs.Cut.{rest-is}
-use Rattle.grammar.specs.Tokens.{tokens, bytesOf, last-behind, two-tail}
+use Rattle.grammar.specs.Tokens.{tokens, bytesOf, last-behind, one-tail, two-tail}
 use Rattle.grammar.specs.Head.{headMeant}
 use Rattle.grammar.specs.declared.head.Head.{Head}
 use Rattle.grammar.specs.declared.head.Head.the-variants.{Ampersand}
-use Rattle.grammar.specs.Chance.{BoundRead, HoursRead}
+use Rattle.grammar.specs.Chance.{BoundRead}
 use Rattle.grammar.specs.declared.chance.Bound.{Bound}
 use Rattle.grammar.specs.declared.chance.Bound.the-variants as bound
-use Rattle.grammar.specs.declared.chance.Amount.{Amount}
-use Rattle.grammar.specs.declared.chance.Amount.the-variants as amount
+use Rattle.grammar.specs.Course.{courseOf, path-course}
+use Rattle.grammar.specs.declared.course.Course.{Course}
+use Rattle.grammar.specs.declared.course.Course.the-variants as course
 use Rattle.formula.specs.Size.{sizeOf}
 use Rattle.formula.specs.declared.size.Size.{Size}
 use Rattle.formula.specs.declared.size.Size.the-variants.{Read, Wrong}
-use Rattle.formula.specs.Nodes.{OperandsBefore}
+use Rattle.formula.specs.Nodes.{pathMeant}
+use Rattle.formula.specs.Operands.{OperandsBefore}
 use Rattle.formula.specs.declared.nodes.Path.{Path}
+use Rattle.formula.specs.declared.nodes.Path.the-variants as path
 use Rattle.formula.specs.declared.nodes.Kind.{Kind}
 use Rattle.formula.specs.declared.nodes.Kind.the-variants as kind
 use Rattle.formula.specs.Listed.{held, pathHeld, kindHeld}
-use Rattle.formula.specs.Laying.{nodesFound, nodesAt, nodesBehind, nodesSecond, hollow, kindFound, chanceKind, headKind, topKind, behindOwn}
+use Rattle.formula.specs.Laying.{nodesFound, nodesAt, nodesBehind, nodesSecond, hollow, kindFound, chanceKind, headKind, topKind, behindPath, behindOwn}
 use Rattle.formula.specs.Route.{routeKind, RouteRead}
 use Rattle.formula.specs.declared.lay.Route.{Route}
 use Rattle.formula.specs.declared.lay.Route.the-variants as route
@@ -81,19 +84,21 @@ held-again AtMost = refl
 held-again AtLeast = refl
 held-again More = refl
 
--- h are the hours at the start of the rest s
-module _ (s : Text) (i : ℕ) (h : Amount) (is : HoursRead (tokens s) h) where
-  pub route-none : h ≡ amount.Missing → RouteRead i (tokens s) route.Missing
-  unfolding path
-  route-none e c p = rw (is (λ t. pair hollow (λ a b. csl.chance (comparisonOf c) p (csl.until t a b))), e)
+-- h is what the rest s begins with
+module _ (s : Text) (i : ℕ) (h : Course) (is : h ≡ courseOf (tokens s)) where
+  pub route-none : h ≡ course.Missing → RouteRead i (tokens s) route.Missing
+  route-none e c p = rw (path-course, ← is, e)
 
-  pub route-some : (t : ℕ) (u : Text) (n first second : ℕ) → h ≡ amount.Is t → u ≡ afterPart space (afterPart space s) → n ≡ nodesSecond (tokens u)
-      → first ≡ i - suc n → second ≡ i - 1 → RouteRead i (tokens s) (route.Is (record { hundredths = t; first = first; second = second }))
-  unfolding path pair andThen
-  route-some t u n first second e v q x y c p =
-      rw (is (λ t. pair hollow (λ a b. csl.chance (comparisonOf c) p (csl.until t a b))), e, two-tail s u v, ← q, held-again, x, y)
+  pub route-until : (t : ℕ) (u : Text) (n first second : ℕ) → h ≡ course.Until t → u ≡ afterPart space (afterPart space s)
+      → n ≡ nodesSecond (tokens u) → first ≡ i - suc n → second ≡ i - 1 → RouteRead i (tokens s) (route.Is (path.Until t first second))
+  unfolding pair andThen
+  route-until t u n first second e v q x y c p = rw (path-course, ← is, e, two-tail s u v, ← q, held-again, x, y)
 
-pub ruleset route-laws = (route-none, route-some)
+  pub route-next : (place : ℕ) → h ≡ course.Next → place ≡ i - 1 → RouteRead i (tokens s) (route.Is (path.Next place))
+  unfolding single andThen
+  route-next place e x c p = rw (path-course, ← is, e, held-again, x)
+
+pub ruleset route-laws = (route-none, route-until, route-next)
 
 -- b are the comparison and the threshold at the start of the rest s
 module _ (s : Text) (i : ℕ) (b : Bound) (is : BoundRead (tokens s) b) where
@@ -127,21 +132,31 @@ module _ (names : List Text) (i : ℕ) (w : Text) (ts : List Text) (h : Head) (i
 
 pub ruleset top-laws = (top-is, top-both)
 
+-- o is a path formula, and s the rest that its own tokens begin
+module _ (o : Path) (s : Text) where
+  pub own-until : (t x y : ℕ) (u : Text) → o ≡ path.Until t x y → u ≡ afterPart space (afterPart space s)
+      → tokens u ≡ behindPath (pathMeant o) (tokens s)
+  own-until t x y u e q = rw (e, two-tail s u q)
+
+  pub own-next : (x : ℕ) (u : Text) → o ≡ path.Next x → u ≡ afterPart space s → tokens u ≡ behindPath (pathMeant o) (tokens s)
+  own-next x u e q = rw (e, one-tail s u q)
+
 -- k is a node's kind, and s the rest behind its first token
 module _ (k : Kind) (s : Text) where
   pub own-plain : (g : Kind) → k ≡ g → tokens s ≡ behindOwn g (tokens s) → tokens s ≡ behindOwn k (tokens s)
   own-plain g e q = rw e q
 
-  pub own-chance : (c : Comparison) (p : ℕ) (w : Path) (t u : Text) → k ≡ kind.Chance c p w → t ≡ afterPart space (afterPart space s)
-      → u ≡ afterPart space (afterPart space t) → tokens u ≡ behindOwn k (tokens s)
-  own-chance c p w t u e q r = rw (e, two-tail s t q, two-tail t u r)
+  pub own-chance : (c : Comparison) (p : ℕ) (o : Path) (t u : Text) → k ≡ kind.Chance c p o → t ≡ afterPart space (afterPart space s)
+      → tokens u ≡ behindPath (pathMeant o) (tokens t) → tokens u ≡ behindOwn k (tokens s)
+  own-chance c p o t u e q r = rw (e, two-tail s t q) r
 
-pub ruleset own-laws = (own-plain, own-chance)
+pub ruleset own-laws = (own-until, own-next, own-plain, own-chance)
 
 -- its operands stand in the row where it does
 module _ (i n : ℕ) (h : i < mostNodes) where
   path-below : (c : Comparison) (p : ℕ) (w : csl.Path) → OperandsBefore mostNodes (kind.Chance c p (pathHeld i n w))
   path-below c p (csl.until t a b) = (omega arith, omega arith)
+  path-below c p (csl.nextMove a) = omega arith
 
   held-below : (f : csl.Formula) → OperandsBefore mostNodes (kindHeld [] i n f)
   held-below csl.always = tt
@@ -150,9 +165,9 @@ module _ (i n : ℕ) (h : i < mostNodes) where
   held-below (csl.both a b) = (omega arith, omega arith)
   held-below (csl.chance r p w) = path-below (held r) p w
 
-  found-below : (fd : Found) → OperandsBefore mostNodes (kindFound i n fd)
-  found-below nothing = tt
-  found-below (found f rest) = held-below f
+found-below : (i : ℕ) → i < mostNodes → (fd : Found) → OperandsBefore mostNodes (kindFound i fd)
+found-below i h nothing = tt
+found-below i h (found f rest) = held-below i _ h f
 
 pub top-below : (names : List Text) (i : ℕ) (w : Text) (ts : List Text) → i < mostNodes → OperandsBefore mostNodes (topKind names i w ts)
 top-below names i w ts h = go (headOf w)
@@ -162,5 +177,5 @@ top-below names i w ts h = go (headOf w)
     go name = tt
     go bang = omega arith
     go ampersand = (omega arith, omega arith)
-    go chances = found-below i _ h (state hollow [] chances ts)
+    go chances = found-below i h (state hollow [] chances ts)
     go other = tt

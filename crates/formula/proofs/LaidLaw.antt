@@ -2,14 +2,15 @@
 use mathlib.Core.Path.{_≡_, refl, sym, _∙_, ap}
 use Prim.Native.Nat.{ℕ, zero, suc, _+_, _-_, _≤_}
 use native.Mathlib.Omega.{arith}
-use mathlib.Core.List.{List, [], _∷_, _++_, headD}
+use mathlib.Core.List.{List, [], _∷_, _++_, headD, tail}
 use lib.ListN.{length, drop, set, replicate, length-append}
 use Rattle.csl.specs.Text.{Text}
 use Rattle.csl.specs.Limits.{mostNodes}
-use Rattle.csl.specs.Formula.{Formula, always, label, negated, both, chance, until, nodes, nodesIn}
-use Rattle.csl.specs.Grammar.{Found, nothing, found, andThen, pair, Head, truth, name, bang, ampersand, chances, other, headOf, state, readState}
+use Rattle.csl.specs.Formula.{Formula, always, label, negated, both, chance, until, nextMove, nodes, nodesIn}
+use Rattle.csl.specs.Grammar.{Found, nothing, found, andThen, single, pair, Head, truth, name, bang, ampersand, chances, other, headOf, state, readState}
 use Rattle.grammar.specs.Left.{Leaves, left, last-length}
 use Rattle.grammar.specs.Fixed.{read, read-next, read-leaves}
+use Rattle.grammar.specs.declared.course.Course.the-variants.{Until, Next, Missing}
 use Rattle.formula.specs.Nodes.{node, blank}
 use Rattle.formula.specs.declared.nodes.Node.{Node}
 use Rattle.formula.specs.Listed.{kindHeld, listed, listedIn, stored}
@@ -30,10 +31,12 @@ module _ (names : List Text) where
   abbrev Upto : ℕ → Type 0
   Upto m = (ts : List Text) → length ts ≤ m → (f : Formula) (rest : List Text) → read ts ≡ found f rest → Lays ts f rest
 
+  one-shorter : (ts : List Text) → length (tail ts) ≤ length ts
+  one-shorter [] = omega arith
+  one-shorter (w ∷ ts) = omega arith
+
   two-shorter : (ts : List Text) → length (behindTwo ts) ≤ length ts
-  two-shorter [] = omega arith
-  two-shorter (w ∷ []) = omega arith
-  two-shorter (w ∷ v ∷ ts) = omega arith
+  two-shorter ts = omega (arith, one-shorter (tail ts), one-shorter ts)
 
   -- one node, put at the place that waits first
   one-node : (w : Text) (ts : List Text) (k i : ℕ) (p : List ℕ) (ns : List Node)
@@ -42,14 +45,28 @@ module _ (names : List Text) where
   unfolding laying headD
   one-node w ts k i p ns = refl
 
-  -- a node over one operand
-  over-one : (m : ℕ) → Upto m → (w : Text) (ts : List Text) → length ts ≤ m → headOf w ≡ bang → (a : Formula) (rest : List Text)
-      → read ts ≡ found a rest → Lays (w ∷ ts) (negated a) rest
-  unfolding listed nodes
-  over-one m ih w ts h e a rest q k b p ns =
-      let s : k + (1 + nodes a) ≡ suc (k + nodes a) = omega arith in
-      let t : b + (1 + nodes a) - 1 ≡ b + nodes a = omega arith in
-      rw (s, t, one-node, e, ih ts h a rest q k b p _, put-last (listed names a b) _ b (b + nodes a) ns (omega (arith, length-listed names a b)))
+  -- a node over one operand, which begins the tokens us behind its own
+  over-one : (m : ℕ) → Upto m → (w : Text) (ts us : List Text) → length us ≤ m → (f a : Formula) (rest : List Text)
+      → nodes f ≡ 1 + nodes a
+      → ((b : ℕ) → listed names f b ≡ listed names a b ++ (node (kindHeld names (b + nodes a) (nodes a) f) ∷ []))
+      → ((j : ℕ) → topKind names j w ts ≡ kindHeld names j (nodes a) f)
+      → ((j : ℕ) → behindOwn (kindHeld names j (nodes a) f) ts ≡ us)
+      → ((j : ℕ) (p : List ℕ) → awaiting (kindHeld names j (nodes a) f) p ≡ (j - 1) ∷ p)
+      → read us ≡ found a rest → Lays (w ∷ ts) f rest
+  over-one m ih w ts us h f a rest size row top own one-waits q k b p ns =
+      let s : k + nodes f ≡ suc (k + nodes a) = omega arith in
+      let t : b + nodes f - 1 ≡ b + nodes a = omega arith in
+      rw (
+        s,
+        t,
+        one-node,
+        top,
+        own,
+        one-waits,
+        ih us h a rest q k b p _,
+        row,
+        put-last (listed names a b) _ b (b + nodes a) ns (omega (arith, length-listed names a b)),
+      )
 
   -- a node over two operands, the first of which begins the tokens us behind its own
   over-two : (m : ℕ) → Upto m → (w : Text) (ts us : List Text) → length us ≤ m → (f a c : Formula) (more rest : List Text)
@@ -85,7 +102,24 @@ module _ (names : List Text) where
         length-listed names a b,
       )
 
-  -- so for each that csl's `pair` makes of two operands
+  -- so for each that csl's `single` makes of one operand, and its `pair` of two
+  module _ (m : ℕ) (ih : Upto m) (w : Text) (ts us : List Text) (h : length us ≤ m) (make : Formula → Formula)
+      (size : (a : Formula) → nodes (make a) ≡ 1 + nodes a)
+      (row : (a : Formula) (b : ℕ) → listed names (make a) b ≡ listed names a b ++ (node (kindHeld names (b + nodes a) (nodes a) (make a)) ∷ []))
+      (top : (a : Formula) (j : ℕ) → topKind names j w ts ≡ kindHeld names j (nodes a) (make a))
+      (own : (a : Formula) (j : ℕ) → behindOwn (kindHeld names j (nodes a) (make a)) ts ≡ us)
+      (one-waits : (a : Formula) (j : ℕ) (p : List ℕ) → awaiting (kindHeld names j (nodes a) (make a)) p ≡ (j - 1) ∷ p) where
+    single-lays : (f : Formula) (rest : List Text) → single read make us ≡ found f rest → Lays (w ∷ ts) f rest
+    unfolding single andThen
+    single-lays f rest p = go (read us) refl p
+      where
+        go : (fd : Found) → read us ≡ fd → andThen fd (λ a r. found (make a) r) ≡ found f rest → Lays (w ∷ ts) f rest
+        go nothing q p = let z : _≡_ {A = ℕ} 0 1 = cc in absurd (omega arith)
+        go (found a end) q p =
+            let x : make a ≡ f = cc in
+            let y : end ≡ rest = cc in
+            rw (← x, ← y) (over-one m ih w ts us h (make a) a end (size a) (row a) (top a) (own a) (one-waits a) q)
+
   module _ (m : ℕ) (ih : Upto m) (w : Text) (ts us : List Text) (h : length us ≤ m) (make : Formula → Formula → Formula)
       (size : (a c : Formula) → nodes (make a c) ≡ 1 + (nodes a + nodes c))
       (row : (a c : Formula) (b : ℕ)
@@ -129,18 +163,16 @@ module _ (names : List Text) where
         let t : b + nodes g - 1 ≡ b = omega arith in
         rw (s, t, one-node, own, none-wait, row)
 
-    bang-lays : headOf w ≡ bang → (fd : Found) → read ts ≡ fd → andThen fd (λ a r. found (negated a) r) ≡ found f rest → Lays (w ∷ ts) f rest
-    unfolding andThen
-    bang-lays e nothing q p = let z : _≡_ {A = ℕ} 0 1 = cc in absurd (omega arith)
-    bang-lays e (found a end) q p =
-        let x : negated a ≡ f = cc in
-        let y : end ≡ rest = cc in
-        rw (← x, ← y) (over-one m ih w ts h e a end q)
-
     chance-lays : headOf w ≡ chances → state read w chances ts ≡ found f rest → ChanceAt ts → Lays (w ∷ ts) f rest
-    unfolding nodes nodesIn listed listedIn pair andThen
+    unfolding nodes nodesIn listed listedIn single pair andThen
     chance-lays e p (broken b) = let q = b read w in let z : _≡_ {A = ℕ} 0 1 = cc in absurd (omega arith)
-    chance-lays e p (bounded c l t b) =
+    chance-lays e p (bounded c l Missing b) = let q = b read w in let z : _≡_ {A = ℕ} 0 1 = cc in absurd (omega arith)
+    chance-lays e p (bounded c l Next b) =
+        let us = tail (behindTwo ts) in
+        let k : length us ≤ m = omega (arith, one-shorter (behindTwo ts), two-shorter ts) in
+        single-lays m ih w ts us k (λ x. chance c l (nextMove x)) (λ x. refl) (λ x b. refl) (λ x j. rw (e, b hollow [])) (λ x j. refl)
+        (λ x j q. refl) f rest (sym (b read w) ∙ p)
+    chance-lays e p (bounded c l (Until t) b) =
         let us = behindTwo (behindTwo ts) in
         let k : length us ≤ m = omega (arith, two-shorter (behindTwo ts), two-shorter ts) in
         pair-lays m ih w ts us k (λ x y. chance c l (until t x y)) (λ x y. refl) (λ x y b. refl) (λ x y j n. rw (e, b hollow [], n))
@@ -150,7 +182,7 @@ module _ (names : List Text) where
     unfolding state nodes listed
     head-lays truth e p = leaf-lays always refl (λ b. rw e) (λ b. rw e) (λ b q. rw e) p
     head-lays name e p = leaf-lays (label w) refl (λ b. rw e) (λ b. rw e) (λ b q. rw e) p
-    head-lays bang e p = bang-lays e (read ts) refl p
+    head-lays bang e p = single-lays m ih w ts ts h negated (λ x. refl) (λ x b. refl) (λ x j. rw e) (λ x j. refl) (λ x j q. refl) f rest p
     head-lays ampersand e p =
         pair-lays m ih w ts ts h both (λ x y. refl) (λ x y b. refl) (λ x y j n. rw (e, n)) (λ x y j. refl) (λ x y j q. refl) f rest p
     head-lays chances e p = chance-lays e p (chance-at ts)

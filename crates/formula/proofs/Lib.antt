@@ -4,6 +4,7 @@ pub mod PairLaw
 pub mod HeadedLaw
 pub mod TextLaw
 pub mod PassLaw
+pub mod OperandsLaw
 pub mod WaitLaw
 pub mod PutLaw
 pub mod TopLaw

@@ -1,4 +1,4 @@
--- The size of a node over two state formulas, and of a path formula's. Assumes nothing.
+-- The size of a node over one state formula and over two, and of a path formula's. Assumes nothing.
 use mathlib.Core.Path.{_≡_, refl, sym, _∙_}
 use Prim.Native.Nat.{ℕ, _+_, _-_, _*_, _≤_, max}
 use native.Mathlib.Omega.{arith}
@@ -6,22 +6,25 @@ use mathlib.Core.List.{List}
 use lib.ListN.{length, take, drop, length-drop}
 use Rattle.csl.specs.Text.{Text}
 use Rattle.csl.specs.Line.{space}
-use Rattle.csl.specs.Formula.{Formula, both, chance, until, nodes, nodesIn, levels, levelsIn, Comparison}
-use Rattle.csl.specs.Grammar.{Found, nothing, found, andThen, pair, path}
+use Rattle.csl.specs.Formula.{Formula, negated, both, chance, until, nextMove, nodes, nodesIn, levels, levelsIn, Comparison}
+use Rattle.csl.specs.Grammar.{Found, nothing, found, andThen, single, pair, path}
 use Rattle.grammar.specs.Left.{Leaves, none-read, left}
 use Rattle.grammar.specs.Fixed.{read, read-leaves}
 use Rattle.texts.specs.Cut.{rest-is}
 use Rattle.texts.specs.Behind.{afterPart}
-use Rattle.grammar.specs.Tokens.{tokens, bytesOf, last-behind, two-within, two-tail}
-use Rattle.grammar.specs.Chance.{HoursRead}
-use Rattle.grammar.specs.declared.chance.Amount.{Amount}
-use Rattle.grammar.specs.declared.chance.Amount.the-variants as amount
-use Rattle.formula.specs.Size.{sizeOf, overTwo, SizeFits}
+use Rattle.grammar.specs.Tokens.{tokens, bytesOf, last-behind, one-within, two-within, one-tail, two-tail}
+use Rattle.grammar.specs.Course.{courseOf, path-course}
+use Rattle.grammar.specs.declared.course.Course.{Course}
+use Rattle.grammar.specs.declared.course.Course.the-variants as course
+use Rattle.formula.specs.Size.{sizeOf, overOne, overTwo, SizeFits}
 use Rattle.formula.specs.declared.size.Size.{Size}
 use Rattle.formula.specs.declared.size.Size.the-variants.{Read, Wrong}
-use Rattle.formula.proofs.FitsLaw.{fits-wider, fits-two}
+use Rattle.formula.proofs.FitsLaw.{fits-wider, fits-one, fits-two}
 
--- what `size_pair` and `size_path` promise of the rest s
+-- what `size_single`, `size_pair` and `size_path` promise of the rest s
+abbrev pub Singled : Text → Size → Type 0
+Singled s r = (r ≡ sizeOf (single read negated (tokens s))) × SizeFits r (2 + length s)
+
 abbrev pub Paired : Text → Size → Type 0
 Paired s r = (r ≡ sizeOf (pair read both (tokens s))) × SizeFits r (2 + length s)
 
@@ -58,6 +61,26 @@ nothing-wrong : (fd : Found) → sizeOf fd ≡ Wrong → (next : Formula → Lis
 unfolding andThen
 nothing-wrong nothing e next = refl
 nothing-wrong (found f rest) e next = let z : _≡_ {A = ℕ} 0 1 = cc in absurd (omega arith)
+
+-- a node that counts as `!` over its operand
+abbrev CountedOne : (Formula → Formula) → Type 0
+CountedOne make = (a : Formula) → (nodes (make a) ≡ 1 + nodes a) × (levels (make a) ≡ 1 + levels a)
+
+not-counted : CountedOne negated
+unfolding nodes levels
+not-counted a = (refl, refl)
+
+next-counted : (c : Comparison) (p : ℕ) → CountedOne (λ a. chance c p (nextMove a))
+unfolding nodes nodesIn levels levelsIn
+next-counted c p a = (refl, refl)
+
+over-single : (make : Formula → Formula) → CountedOne make → (ts : List Text) → sizeOf (single read make ts) ≡ overOne (sizeOf (read ts))
+unfolding single andThen
+over-single make counted ts = go (read ts)
+  where
+    go : (fd : Found) → sizeOf (andThen fd λ a rest. found (make a) rest) ≡ overOne (sizeOf fd)
+    go nothing = refl
+    go (found a rest) = rw (counted a .0, counted a .1)
 
 -- what `size_state` promises of the rest s
 abbrev pub Stated : Text → Size → Type 0
@@ -102,16 +125,30 @@ module _ (s : Text) (a : Size) (first : Stated s a) where
         let k = rw e at (first .1) in
         (omega arith, omega arith, fits-wider b _ _ (last-stated s l b rest .1) (omega (arith, length-drop (length s - l) s)))
 
--- h are the hours
-module _ (s : Text) (h : Amount) (is : HoursRead (tokens s) h) where
-  pub path-wrong : h ≡ amount.Missing → Pathed s Wrong
-  unfolding path
-  path-wrong e = (λ c p. rw (is (λ t. pair read (λ a b. chance c p (until t a b))), e), omega arith)
+-- what `over_one` asks, and what it makes of the one operand
+module _ (s : Text) (a : Size) (is : Stated s a) where
+  pub single-asks : (most : ℕ) → length s ≤ most → SizeFits a most
+  single-asks most h = fits-wider a _ _ (is .1) h
 
-  pub path-some : (t : ℕ) (u : Text) (r : Size) → h ≡ amount.Is t → u ≡ afterPart space (afterPart space s) → Paired u r → Pathed s r
-  unfolding path pair
-  path-some t u r e v q = (
-    λ c p. rw (is (λ t. pair read (λ a b. chance c p (until t a b))), e, two-tail s u v)
+  pub single-one : (r : Size) → r ≡ overOne a → Singled s r
+  single-one r q = (q ∙ rw (is .0) (sym (over-single negated not-counted (tokens s))), rw q (fits-one a _ (is .1)))
+
+-- h is what the rest s begins with
+module _ (s : Text) (h : Course) (is : h ≡ courseOf (tokens s)) where
+  pub path-wrong : h ≡ course.Missing → Pathed s Wrong
+  path-wrong e = (λ c p. rw (path-course, ← is, e), omega arith)
+
+  pub path-until : (t : ℕ) (u : Text) (r : Size) → h ≡ course.Until t → u ≡ afterPart space (afterPart space s) → Paired u r → Pathed s r
+  unfolding pair
+  path-until t u r e v q = (
+    λ c p. rw (path-course, ← is, e, two-tail s u v)
         (q .0 ∙ sym (over-both (λ a b. chance c p (until t a b)) (until-counted c p t) (read (tokens u)))),
     fits-wider r _ _ (q .1) (omega (arith, two-within s u v)),
+  )
+
+  pub path-next : (u : Text) (r : Size) → h ≡ course.Next → u ≡ afterPart space s → Singled u r → Pathed s r
+  path-next u r e v q = (
+    λ c p. rw (path-course, ← is, e, one-tail s u v)
+        (q .0 ∙ over-single negated not-counted (tokens u) ∙ sym (over-single (λ a. chance c p (nextMove a)) (next-counted c p) (tokens u))),
+    fits-wider r _ _ (q .1) (omega (arith, one-within s u v)),
   )

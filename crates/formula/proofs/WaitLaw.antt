@@ -10,12 +10,14 @@ use lib.Seq.{drop-cons, drop-set-lt, getD-set-same, getD-set-other, lt-length-se
 use lib.Dec.{eqb}
 use borrow.Author.Tests.{eqb-true, eqb-false}
 use Rattle.csl.specs.Limits.{mostNodes}
-use Rattle.formula.specs.Nodes.{OperandsBefore, same-throughout}
+use Rattle.formula.specs.Nodes.{same-throughout}
+use Rattle.formula.specs.Operands.{operandsOf, AllBefore, OperandsBefore}
 use Rattle.formula.specs.declared.nodes.Kind.{Kind}
-use Rattle.formula.specs.declared.nodes.Kind.the-variants as kind
+use Rattle.formula.specs.declared.operands.Operands.{Operands}
+use Rattle.formula.specs.declared.operands.Operands.the-variants.{None, One, Two}
 use Rattle.formula.specs.declared.waiting.Waiting.{Waiting}
-use Rattle.formula.specs.Waiting.{waitingRoom, waits, nothingWaits, waitFor, waitOver}
-use Rattle.formula.specs.Laying.{awaiting}
+use Rattle.formula.specs.Waiting.{waitingRoom, waits, nothingWaits, waitFor, waitForAll, waitOver}
+use Rattle.formula.specs.Laying.{awaitingAll, awaiting}
 
 -- one put in right before the end of a list
 set-drop : (l : List ℕ) (i x : ℕ) → i < length l → drop i (set l i x) ≡ x ∷ drop (suc i) l
@@ -93,12 +95,19 @@ module _ (w : Waiting) (ps : List ℕ) (from : ℕ) (a : Waits w ps from) (g : 2
       let o = one-waits (waitFor y w) (y ∷ ps) (from - 1) x (one-waits w ps from y a (omega arith) h d) (omega arith) (omega arith) b in
       record { sound = o .sound; are = o .are; low = omega (arith, o .starts); high = omega (arith, o .starts) }
 
+  all-await : (o : Operands) → AllBefore mostNodes o → Awaits (waitForAll o w) (awaitingAll o ps) from
+  all-await None b = none-await
+  all-await (One x) b = one-awaits x b
+  all-await (Two x y) b = two-await x y (b .0) (b .1)
+
   pub operands-await : (k : Kind) → OperandsBefore mostNodes k → Awaits (waitOver k w) (awaiting k ps) from
-  operands-await kind.Always b = none-await
-  operands-await (kind.Label i) b = none-await
-  operands-await (kind.Negated x) b = one-awaits x b
-  operands-await (kind.Both x y) b = two-await x y (b .0) (b .1)
-  operands-await (kind.Chance c p path) b = two-await (path .first) (path .second) (b .0) (b .1)
+  operands-await k b = all-await (operandsOf k) b
+
+-- r is w with the places of operands
+pub wait-by-operands : (k : Kind) (w r : Waiting) (o x : Operands) → o ≡ operandsOf k → o ≡ x → r ≡ waitForAll x w → r ≡ waitOver k w
+wait-by-operands k w r o x e f q = rw (← e, f) q
+
+pub ruleset wait-laws = (wait-by-operands)
 
 pub sound-first : (p : ℕ) → p < mostNodes → Sound (waitFor p nothingWaits)
 sound-first p h =

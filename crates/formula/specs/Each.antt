@@ -12,7 +12,8 @@ use Rattle.csl.specs.Formula as csl
 use Rattle.csl.specs.Formula.{Formula, nodes, nodesIn, labelsPass, labelsPassIn}
 use Rattle.verdicts.specs.declared.comparison.Comparison.{Comparison}
 use Rattle.formula.specs.Names.{name-at, among-place}
-use Rattle.formula.specs.Nodes.{kindAt, OperandsBefore, LabelKnown}
+use Rattle.formula.specs.Nodes.{kindAt, LabelKnown}
+use Rattle.formula.specs.Operands.{OperandsBefore}
 use Rattle.formula.specs.declared.nodes.Node.{Node}
 use Rattle.formula.specs.declared.nodes.Kind.{Kind}
 use Rattle.formula.specs.declared.nodes.Kind.the-variants as kind
@@ -30,6 +31,7 @@ nodes-some (csl.chance r p w) = omega arith
 path-some : (w : csl.Path) → 1 ≤ nodesIn w
 unfolding nodesIn
 path-some (csl.until t a c) = omega (arith, nodes-some a)
+path-some (csl.nextMove a) = nodes-some a
 
 -- what a node of each kind keeps at its place
 pub record ByKind (names : List Text) (P : ℕ → Kind → Type 0) : Type 0 where
@@ -87,10 +89,12 @@ module _ (names : List Text) (P : ℕ → Kind → Type 0) (h : ByKind names P) 
     each-in (csl.until t a c) b i l =
         let m = and-eq-true-iff _ _ .0 l in
         both-rows b (nodes a) (nodes c) (each a b (first-held names ns a c b i) (m .0)) (each c (b + nodes a) (second-held names ns a c b i) (m .1))
+    each-in (csl.nextMove a) b i l = each a b i l
 
 -- operands come before their node
 path-before : (c : Comparison) (p k n : ℕ) (w : csl.Path) → 1 ≤ k → OperandsBefore k (kind.Chance c p (pathHeld k n w))
 path-before c p k n (csl.until t x y) h = (omega arith, omega arith)
+path-before c p k n (csl.nextMove x) h = omega arith
 
 pub before-kept : (names : List Text) → ByKind names OperandsBefore
 before-kept names =

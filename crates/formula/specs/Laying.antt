@@ -5,14 +5,17 @@ use lib.ListN.{set, replicate}
 use Rattle.csl.specs.Text.{Text}
 use Rattle.csl.specs.Limits.{mostNodes}
 use Rattle.csl.specs.Labels.{placeOf}
-use Rattle.csl.specs.Formula.{always, nodes}
+use Rattle.csl.specs.Formula.{PathOf, untilOf, nextOf, always, nodes}
 use Rattle.csl.specs.Grammar.{Found, nothing, found, Reader, Head, truth, name, bang, ampersand, chances, other, headOf, state}
 use Rattle.grammar.specs.Fixed.{read}
 use Rattle.formula.specs.declared.nodes.Kind.{Kind}
 use Rattle.formula.specs.declared.nodes.Kind.the-variants as kind
+use Rattle.formula.specs.Operands.{operandsOf}
+use Rattle.formula.specs.declared.operands.Operands.{Operands}
+use Rattle.formula.specs.declared.operands.Operands.the-variants.{None, One, Two}
 use Rattle.formula.specs.declared.nodes.Node.{Node}
 use Rattle.formula.specs.declared.nodes.Nodes.{Nodes}
-use Rattle.formula.specs.Nodes.{node, blank}
+use Rattle.formula.specs.Nodes.{node, blank, pathMeant}
 use Rattle.formula.specs.Listed.{kindHeld}
 use Rattle.formula.specs.Waiting.{waits, nothingWaits, waitFor}
 
@@ -36,17 +39,17 @@ nodesSecond ts = nodesBehind (read ts)
 abbrev pub hollow : Reader
 hollow ts = found always ts
 
--- the tokens of a `P` up to its path formula, and of the path formula up to its operands
+-- the tokens behind the first two
 abbrev pub behindTwo : List Text → List Text
 behindTwo ts = tail (tail ts)
 
--- the node of a `P` at place i, from what csl reads without its operands; n are the nodes of the last
-abbrev pub kindFound : ℕ → ℕ → Found → Kind
-kindFound i n nothing = kind.Always
-kindFound i n (found f rest) = kindHeld [] i n f
+-- the node of a `P` at place i, from what csl reads without its operands, which begin what is left
+abbrev pub kindFound : ℕ → Found → Kind
+kindFound i nothing = kind.Always
+kindFound i (found f rest) = kindHeld [] i (nodesSecond rest) f
 
 abbrev pub chanceKind : ℕ → List Text → Kind
-chanceKind i ts = kindFound i (nodesSecond (behindTwo (behindTwo ts))) (state hollow [] chances ts)
+chanceKind i ts = kindFound i (state hollow [] chances ts)
 
 -- the node at place i that begins with the token w
 abbrev pub headKind : List Text → ℕ → Text → Head → List Text → Kind
@@ -60,21 +63,27 @@ headKind names i w other ts = kind.Always
 abbrev pub topKind : List Text → ℕ → Text → List Text → Kind
 topKind names i w ts = headKind names i w (headOf w) ts
 
--- the tokens behind a node's own: `P` has four more
+-- the tokens behind a path's own: `U` and its hours, or `X`
+abbrev pub behindPath : PathOf ℕ → List Text → List Text
+behindPath (untilOf t a b) ts = behindTwo ts
+behindPath (nextOf a) ts = tail ts
+
+-- the tokens behind a node's own: a `P` has a comparison, a threshold and its path's
 abbrev pub behindOwn : Kind → List Text → List Text
 behindOwn kind.Always ts = ts
 behindOwn (kind.Label i) ts = ts
 behindOwn (kind.Negated a) ts = ts
 behindOwn (kind.Both a b) ts = ts
-behindOwn (kind.Chance c p path) ts = behindTwo (behindTwo ts)
+behindOwn (kind.Chance c p o) ts = behindPath (pathMeant o) (behindTwo ts)
 
--- the places of a node's operands before the others that wait
+-- the places of operands before the others that wait, and so those of a node's
+abbrev pub awaitingAll : Operands → List ℕ → List ℕ
+awaitingAll None ps = ps
+awaitingAll (One a) ps = a ∷ ps
+awaitingAll (Two a b) ps = a ∷ b ∷ ps
+
 abbrev pub awaiting : Kind → List ℕ → List ℕ
-awaiting kind.Always ps = ps
-awaiting (kind.Label i) ps = ps
-awaiting (kind.Negated a) ps = a ∷ ps
-awaiting (kind.Both a b) ps = a ∷ b ∷ ps
-awaiting (kind.Chance c p path) ps = path .first ∷ path .second ∷ ps
+awaiting k ps = awaitingAll (operandsOf k) ps
 
 -- so many nodes from the tokens, each put at the place that waits for it
 unfoldable pub laying : List Text → ℕ → List ℕ → List Text → List Node → List Node

@@ -7,10 +7,11 @@ use Rattle.csl.specs.Text.{Text}
 use Rattle.csl.specs.Limits.{mostNodes}
 use Rattle.csl.specs.Labels.{placeOf}
 use Rattle.csl.specs.Formula as csl
-use Rattle.csl.specs.Formula.{Formula, always, label, negated, both, chance, until, nodes, nodesIn}
+use Rattle.csl.specs.Formula.{Formula, always, label, negated, both, chance, until, nextMove, nodes, nodesIn}
 use Rattle.verdicts.specs.declared.comparison.Comparison.{Comparison}
 use Rattle.verdicts.specs.declared.comparison.Comparison.the-variants.{Less, AtMost, AtLeast, More}
 use Rattle.formula.specs.declared.nodes.Path.{Path}
+use Rattle.formula.specs.declared.nodes.Path.the-variants as path
 use Rattle.formula.specs.declared.nodes.Kind.{Kind}
 use Rattle.formula.specs.declared.nodes.Kind.the-variants as kind
 use Rattle.formula.specs.declared.nodes.Node.{Node}
@@ -26,7 +27,8 @@ held csl.More = More
 
 -- The outermost node of a formula, at place i; n are the nodes of its last operand, which stand right before it.
 abbrev pub pathHeld : ℕ → ℕ → csl.Path → Path
-pathHeld i n (until t a b) = record { hundredths = t; first = i - suc n; second = i - 1 }
+pathHeld i n (until t a b) = path.Until t (i - suc n) (i - 1)
+pathHeld i n (nextMove a) = path.Next (i - 1)
 
 abbrev pub kindHeld : List Text → ℕ → ℕ → Formula → Kind
 kindHeld names i n always = kind.Always
@@ -38,6 +40,7 @@ kindHeld names i n (chance r p w) = kind.Chance (held r) p (pathHeld i n w)
 -- how many nodes the last operand of a path formula has
 abbrev pub lastNodes : csl.Path → ℕ
 lastNodes (until t a b) = nodes b
+lastNodes (nextMove a) = nodes a
 
 -- its nodes, from place b on, and those of a path formula's operands
 unfoldable mutual
@@ -51,6 +54,7 @@ unfoldable mutual
 
   pub listedIn : List Text → csl.Path → ℕ → List Node
   listedIn names (until t a c) b = listed names a b ++ listed names c (b + nodes a)
+  listedIn names (nextMove a) b = listed names a b
 
 -- the row of a formula of at most 64 nodes
 unfoldable pub stored : List Text → Formula → Nodes

@@ -5,8 +5,9 @@ use mathlib.Core.List.{List, []}
 use lib.ListN.{length, getD, replicate}
 use Rattle.csl.specs.Text.{Text}
 use Rattle.csl.specs.Labels.{placeOf}
-use Rattle.csl.specs.Formula.{PathOf, untilOf}
+use Rattle.csl.specs.Formula.{PathOf, untilOf, nextOf}
 use Rattle.formula.specs.declared.nodes.Path.{Path}
+use Rattle.formula.specs.declared.nodes.Path.the-variants as path
 use Rattle.formula.specs.declared.nodes.Kind.{Kind}
 use Rattle.formula.specs.declared.nodes.Kind.the-variants as kind
 use Rattle.formula.specs.declared.nodes.Node.{Node}
@@ -29,7 +30,8 @@ same-throughout (suc n) (suc i) x = same-throughout n i x
 
 -- the paper's path formula over places
 abbrev pub pathMeant : Path → PathOf ℕ
-pathMeant path = untilOf (path .hundredths) (path .first) (path .second)
+pathMeant (path.Until t a b) = untilOf t a b
+pathMeant (path.Next a) = nextOf a
 
 -- a label's place is that of a name
 abbrev pub LabelKnown : List Text → Kind → Type 0
@@ -37,12 +39,4 @@ LabelKnown names kind.Always = Unit {0}
 LabelKnown names (kind.Label p) = (p < length names) × (placeOf names (getD names p []) ≡ p)
 LabelKnown names (kind.Negated a) = Unit {0}
 LabelKnown names (kind.Both a b) = Unit {0}
-LabelKnown names (kind.Chance c p path) = Unit {0}
-
--- operands come before their node
-abbrev pub OperandsBefore : ℕ → Kind → Type 0
-OperandsBefore k kind.Always = Unit {0}
-OperandsBefore k (kind.Label i) = Unit {0}
-OperandsBefore k (kind.Negated a) = a < k
-OperandsBefore k (kind.Both a b) = (a < k) × (b < k)
-OperandsBefore k (kind.Chance c p path) = (path .first < k) × (path .second < k)
+LabelKnown names (kind.Chance c p o) = Unit {0}

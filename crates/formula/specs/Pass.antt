@@ -33,7 +33,7 @@ passed test kind.Always = true
 passed test (kind.Label i) = placePasses test i
 passed test (kind.Negated a) = true
 passed test (kind.Both a b) = true
-passed test (kind.Chance c p path) = pathPasses test p (pathMeant path)
+passed test (kind.Chance c p o) = pathPasses test p (pathMeant o)
 
 -- p 0 to p (n - 1) are all true
 unfoldable pub allBelow : (ℕ → Bool) → ℕ → Bool

@@ -70,3 +70,4 @@ module _ (names : List Text) (ns : List Node) where
           read-back a d b (first-held names ns a c b h) (m .0) (omega arith),
           read-back c d (b + nodes a) (second-held names ns a c b h) (m .1) (omega arith),
         )
+    path-back (csl.nextMove a) d b h n l = rw (read-back a d b h n l)

@@ -10,12 +10,12 @@ use Rattle.formula.specs.declared.nodes.Kind.{Kind}
 use Rattle.formula.specs.declared.nodes.Kind.the-variants as kind
 use Rattle.formula.specs.declared.lay.Route.{Route}
 use Rattle.formula.specs.declared.lay.Route.the-variants.{Is, Missing}
-use Rattle.formula.specs.Laying.{nodesSecond, hollow, behindTwo, kindFound}
+use Rattle.formula.specs.Laying.{hollow, kindFound}
 
 abbrev pub routeKind : Comparison → ℕ → Route → Kind
-routeKind c p (Is path) = kind.Chance c p path
+routeKind c p (Is o) = kind.Chance c p o
 routeKind c p Missing = kind.Always
 
 -- the node i that csl reads of a path formula, whatever the comparison and the threshold before it
 abbrev pub RouteRead : ℕ → List Text → Route → Type 0
-RouteRead i ts r = (c : Comparison) → (p : ℕ) → kindFound i (nodesSecond (behindTwo ts)) (path hollow (comparisonOf c) p ts) ≡ routeKind c p r
+RouteRead i ts r = (c : Comparison) → (p : ℕ) → kindFound i (path hollow (comparisonOf c) p ts) ≡ routeKind c p r

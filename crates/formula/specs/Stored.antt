@@ -17,7 +17,8 @@ use Rattle.csl.specs.Formula.{Formula, nodes, nodesIn, levels, levelsIn, labels
 use Rattle.formula.specs.declared.nodes.Kind.{Kind}
 use Rattle.formula.specs.declared.nodes.Kind.the-variants as kind
 use Rattle.formula.specs.declared.nodes.Node.{Node}
-use Rattle.formula.specs.Nodes.{blank, kindAt, OperandsBefore, LabelKnown, same-throughout}
+use Rattle.formula.specs.Nodes.{blank, kindAt, LabelKnown, same-throughout}
+use Rattle.formula.specs.Operands.{OperandsBefore}
 use Rattle.formula.specs.FormulaAt.{formulaAt}
 use Rattle.formula.specs.Pass.{placePasses, pathPasses, allBelow, allPassed}
 use Rattle.formula.specs.declared.pass.Test.{Test}
@@ -42,6 +43,7 @@ mutual
 
   levels-in : (w : csl.Path) → levelsIn w ≤ nodesIn w
   levels-in (csl.until t a b) = omega (arith, levels-nodes a, levels-nodes b)
+  levels-in (csl.nextMove a) = levels-nodes a
 
 module _ (names : List Text) (f : Formula) where
   stands : Stands ((stored names f) .nodes) (listed names f 0) 0

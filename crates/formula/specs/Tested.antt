@@ -7,7 +7,7 @@ use mathlib.Core.List.{List}
 use Rattle.csl.specs.Text.{Text}
 use Rattle.csl.specs.Labels.{placeOf}
 use Rattle.csl.specs.Formula as csl
-use Rattle.csl.specs.Formula.{Formula, PathOf, pathOf, nodes, nodesIn, labelsPass, labelsPassIn, pathsPass, pathsPassIn}
+use Rattle.csl.specs.Formula.{Formula, PathOf, pathOf, nodes, nodesIn, labelsPass, labelsPassIn, timesPass, phasesPass, pathsPass, pathsPassIn}
 use Rattle.formula.specs.Nodes.{pathMeant}
 use Rattle.formula.specs.Pass.{placePasses, pathPasses, allBelow, placePassed}
 use Rattle.formula.specs.declared.nodes.Node.{Node}
@@ -27,6 +27,7 @@ unfoldable mutual
 
   pub treePassIn : (Text → Bool) → (ℕ → PathOf Formula → Bool) → csl.Path → Bool
   treePassIn name bound (csl.until t a c) = treePass name bound a && treePass name bound c
+  treePassIn name bound (csl.nextMove a) = treePass name bound a
 
 mutual
   unfolding treePass treePassIn labelsPass labelsPassIn
@@ -40,6 +41,7 @@ mutual
 
   labels-in : (name : Text → Bool) (w : csl.Path) → treePassIn name (λ p o. true) w ≡ labelsPassIn name w
   labels-in name (csl.until t a c) = rw (labels-tree name a, labels-tree name c)
+  labels-in name (csl.nextMove a) = labels-tree name a
 
 mutual
   unfolding treePass treePassIn pathsPass pathsPassIn
@@ -53,12 +55,18 @@ mutual
 
   paths-in : (bound : ℕ → PathOf Formula → Bool) (w : csl.Path) → treePassIn (λ w. true) bound w ≡ pathsPassIn bound w
   paths-in bound (csl.until t a c) = rw (paths-tree bound a, paths-tree bound c)
+  paths-in bound (csl.nextMove a) = paths-tree bound a
 
 -- the test of a path looks at its hours and not at its operands
+same-times : {A B : Type 0} (o : PathOf A) (x : PathOf B) (test : Test) (p : ℕ) → ((f : ℕ → Bool) → timesPass f o ≡ timesPass f x)
+    → ((f : ℕ → Bool) → phasesPass f o ≡ phasesPass f x) → pathPasses test p o ≡ pathPasses test p x
+same-times o x (Labels names) p h k = refl
+same-times o x Limits p h k = rw h
+same-times o x (Load q) p h k = k _
+
 path-tested : (test : Test) (p i n : ℕ) (w : csl.Path) → pathPasses test p (pathMeant (pathHeld i n w)) ≡ pathPasses test p (pathOf w)
-path-tested (Labels names) p i n (csl.until t a c) = refl
-path-tested Limits p i n (csl.until t a c) = refl
-path-tested (Load q) p i n (csl.until t a c) = refl
+path-tested test p i n (csl.until t a c) = same-times _ _ test p (λ f. refl) (λ f. refl)
+path-tested test p i n (csl.nextMove a) = same-times _ _ test p (λ f. refl) (λ f. refl)
 
 module _ (names : List Text) (test : Test) (ns : List Node) where
   abbrev pub upto : ℕ → Bool
@@ -104,3 +112,4 @@ module _ (names : List Text) (test : Test) (ns : List Node) where
         let d : b + (nodes a + nodes c) ≡ b + nodes a + nodes c = omega arith in
         rw (d, tests-tree c (b + nodes a) (second-held names ns a c b h), tests-tree a b (first-held names ns a c b h))
         (and-assoc (upto b) (pass a) (pass c))
+    tests-in (csl.nextMove a) b h = tests-tree a b h

@@ -2,8 +2,10 @@
 use Prim.Native.Nat.{ℕ, _-_}
 use mathlib.Core.List.{List}
 use lib.ListN.{drop, set, replicate}
+use Rattle.formula.specs.Operands.{operandsOf}
 use Rattle.formula.specs.declared.nodes.Kind.{Kind}
-use Rattle.formula.specs.declared.nodes.Kind.the-variants as kind
+use Rattle.formula.specs.declared.operands.Operands.{Operands}
+use Rattle.formula.specs.declared.operands.Operands.the-variants.{None, One, Two}
 use Rattle.formula.specs.declared.waiting.Waiting.{Waiting}
 
 -- twice the most nodes
@@ -21,10 +23,11 @@ nothingWaits = record { places = replicate waitingRoom 0; from = 65 }
 abbrev pub waitFor : ℕ → Waiting → Waiting
 waitFor p w = record { places = set (w .places) (w .from - 1) p; from = w .from - 1 }
 
--- the places of a node's operands
+-- the places of operands, the first before the second, and so those of a node
+abbrev pub waitForAll : Operands → Waiting → Waiting
+waitForAll None w = w
+waitForAll (One a) w = waitFor a w
+waitForAll (Two a b) w = waitFor a (waitFor b w)
+
 abbrev pub waitOver : Kind → Waiting → Waiting
-waitOver kind.Always w = w
-waitOver (kind.Label i) w = w
-waitOver (kind.Negated a) w = waitFor a w
-waitOver (kind.Both a b) w = waitFor a (waitFor b w)
-waitOver (kind.Chance c p path) w = waitFor (path .first) (waitFor (path .second) w)
+waitOver k w = waitForAll (operandsOf k) w

@@ -8,8 +8,8 @@ use crate::nodes::Path;
 use crate::size;
 use crate::size::Size;
 use crate::waiting;
-use grammar::Amount;
 use grammar::Bound;
+use grammar::Course;
 use grammar::Head;
 ghost use mathlib.Core.Path.{_≡_};
 ghost use Prim.Native.Nat.{_≤_, _-_, suc};
@@ -17,8 +17,9 @@ ghost use Rattle.csl.specs.Limits.{mostNodes};
 ghost use Rattle.csl.specs.Line.{space, comma, parts};
 ghost use Rattle.texts.specs.Behind.{partsBehind};
 ghost use Rattle.grammar.specs.Tokens.{tokens};
+ghost use Rattle.formula.specs.Nodes.{pathMeant};
 ghost use Rattle.formula.specs.Route.{RouteRead};
-ghost use Rattle.formula.specs.Laying.{nodesAt, nodesSecond, chanceKind, topKind, behindOwn, laid};
+ghost use Rattle.formula.specs.Laying.{nodesAt, nodesSecond, chanceKind, topKind, behindPath, behindOwn, laid};
 
 // A path formula, or none.
 enum Route {
@@ -65,13 +66,14 @@ fn second_nodes(s: &[u8]) -> usize
 fn read_path(s: &[u8], i: usize) -> Route
     ensures { λ r. ⌜ RouteRead i (tokens (now (s .entry))) r ⌝ }
 {
-    match grammar::read_hours(s) {
-        Amount::Missing => Route::Missing,
-        Amount::Is(hundredths) => Route::Is(Path {
+    match grammar::read_course(s) {
+        Course::Missing => Route::Missing,
+        Course::Until(hundredths) => Route::Is(Path::Until {
             hundredths: hundredths,
             first: before(i, second_nodes(grammar::after_two(s))),
             second: before(i, 0),
         }),
+        Course::Next => Route::Is(Path::Next(before(i, 0))),
     }
 }
 
@@ -107,6 +109,20 @@ fn top_kind(w: &[u8], s: &[u8], names: &[u8], i: usize) -> Kind
     }
 }
 
+// The rest behind a path formula's own tokens, which begin the rest s.
+fn behind_path<'a>(path: Path, s: &'a [u8]) -> &'a [u8]
+    ensures { λ r. ⌜ tokens (now r) ≡ behindPath (pathMeant path) (tokens (now (s .entry))) ⌝ }
+{
+    match path {
+        Path::Until {
+            hundredths: _,
+            first: _,
+            second: _,
+        } => grammar::after_two(s),
+        Path::Next(_) => texts::after(s, b' '),
+    }
+}
+
 // The rest behind a node's own tokens; s is the rest behind the first of them.
 fn behind_own<'a>(kind: Kind, s: &'a [u8]) -> &'a [u8]
     ensures { λ r. ⌜ tokens (now r) ≡ behindOwn kind (tokens (now (s .entry))) ⌝ }
@@ -119,11 +135,8 @@ fn behind_own<'a>(kind: Kind, s: &'a [u8]) -> &'a [u8]
         Kind::Chance {
             comparison: _,
             threshold: _,
-            path: _,
-        } => {
-            let t = grammar::after_two(s);
-            grammar::after_two(t)
-        }
+            path,
+        } => behind_path(path, grammar::after_two(s)),
     }
 }
 

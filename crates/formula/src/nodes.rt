@@ -1,12 +1,14 @@
 // The nodes of a formula in a row, by value: operands before their node, the outermost node last.
 use verdicts::Comparison;
 
-// A path formula: its hours, in hundredths, and the places of its two operands. It is a struct as long as there is one kind of path formula,
-// since an enum of one variant is not covered by the borrow checker.
-pub struct Path {
-    pub hundredths: u64,
-    pub first: usize,
-    pub second: usize,
+// A path formula: an until with its hours, in hundredths, and the places of its two operands; or the next move with the place of its operand.
+pub enum Path {
+    Until {
+        hundredths: u64,
+        first: usize,
+        second: usize,
+    },
+    Next(usize),
 }
 
 // A node: a label by its place among the names, operands by their places in the row.

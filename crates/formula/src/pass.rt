@@ -7,7 +7,9 @@ use limits::MOST_RATE_HUNDREDTHS;
 use limits::MOST_THRESHOLD;
 ghost use mathlib.Core.Path.{_≡_};
 ghost use Prim.Native.Nat.{_≤_};
-ghost use Rattle.csl.specs.Limits.{mostNodes};
+ghost use lib.Dec.{leb};
+ghost use Rattle.csl.specs.Limits.{mostNodes, mostHundredths};
+ghost use Rattle.csl.specs.Formula.{timesPass, phasesPass};
 ghost use Rattle.formula.specs.Nodes.{pathMeant};
 ghost use Rattle.formula.specs.Pass.{lightOf, placePasses, pathPasses, passed, allPassed};
 
@@ -40,14 +42,42 @@ fn place_passes(test: Test, place: usize) -> bool
     }
 }
 
+// Whether the hours of a path formula are within their limit. `X` has none.
+fn hours_pass(path: Path) -> bool
+    ensures { λ r. ⌜ r ≡ timesPass (λ t. leb t mostHundredths) (pathMeant path) ⌝ }
+{
+    match path {
+        Path::Until {
+            hundredths,
+            first: _,
+            second: _,
+        } => hundredths <= MOST_HUNDREDTHS,
+        Path::Next(_) => true,
+    }
+}
+
+// Whether the rate times the hours of a path formula is within its limit.
+fn load_passes(rate: u64, path: Path) -> bool
+    ensures { λ r. ⌜ r ≡ phasesPass (lightOf rate) (pathMeant path) ⌝ }
+{
+    match path {
+        Path::Until {
+            hundredths,
+            first: _,
+            second: _,
+        } => light(rate, hundredths),
+        Path::Next(_) => true,
+    }
+}
+
 // Whether the threshold and the path formula of a `P` pass a test.
 fn path_passes(test: Test, threshold: u64, path: Path) -> bool
     ensures { λ r. ⌜ r ≡ pathPasses test threshold (pathMeant path) ⌝ }
 {
     match test {
         Test::Labels(_) => true,
-        Test::Limits => threshold <= MOST_THRESHOLD && path.hundredths <= MOST_HUNDREDTHS,
-        Test::Load(rate) => light(rate, path.hundredths),
+        Test::Limits => threshold <= MOST_THRESHOLD && hours_pass(path),
+        Test::Load(rate) => load_passes(rate, path),
     }
 }
 

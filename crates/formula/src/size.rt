@@ -1,13 +1,13 @@
 // Whether a text spells a formula, and how large it is: a reader that keeps nothing but counts, for texts of any depth.
-use grammar::Amount;
 use grammar::Bound;
+use grammar::Course;
 use grammar::Head;
 ghost use mathlib.Core.Path.{_≡_};
 ghost use Prim.Native.Nat.{ℕ, _+_, _-_, _*_, _≤_, max};
 ghost use lib.ListN.{length};
 ghost use Rattle.csl.specs.Line.{space, parts};
-ghost use Rattle.csl.specs.Formula.{Comparison, both};
-ghost use Rattle.csl.specs.Grammar.{headOf, state, pair, path, readFormula};
+ghost use Rattle.csl.specs.Formula.{Comparison, negated, both};
+ghost use Rattle.csl.specs.Grammar.{headOf, state, single, pair, path, readFormula};
 ghost use Rattle.grammar.specs.Fixed.{read};
 ghost use Rattle.grammar.specs.Tokens.{tokens};
 ghost use Rattle.formula.specs.Size.{sizeOf, overOne, overTwo, SizeFits, extentOf};
@@ -108,13 +108,21 @@ fn size_headed(w: &[u8], s: &[u8]) -> Size
             nodes: 1,
             levels: 1,
         },
-        Head::Bang => over_one(size_state(s)),
+        Head::Bang => size_single(s),
         Head::Ampersand => size_pair(s),
         Head::Chance => match grammar::read_bound(s) {
             Bound::Missing => Size::Wrong,
             Bound::Is(_, _) => size_path(grammar::after_two(s)),
         },
     }
+}
+
+// A node over the state formula at the start of a rest.
+fn size_single(s: &[u8]) -> Size
+    ensures { λ r. ⌜ r ≡ sizeOf (single read negated (tokens (now (s .entry)))) ⌝ }
+    ensures within { λ r. ⌜ SizeFits r (2 + length (now (s .entry))) ⌝ }
+{
+    over_one(size_state(s))
 }
 
 // A node over the two state formulas at the start of a rest.
@@ -137,9 +145,10 @@ fn size_path(s: &[u8]) -> Size
     ensures { λ r. ⌜ ((c : Comparison) → (p : ℕ) → r ≡ sizeOf (path read c p (tokens (now (s .entry))))) ⌝ }
     ensures within { λ r. ⌜ SizeFits r (2 + length (now (s .entry))) ⌝ }
 {
-    match grammar::read_hours(s) {
-        Amount::Missing => Size::Wrong,
-        Amount::Is(_) => size_pair(grammar::after_two(s)),
+    match grammar::read_course(s) {
+        Course::Missing => Size::Wrong,
+        Course::Until(_) => size_pair(grammar::after_two(s)),
+        Course::Next => size_single(texts::after(s, b' ')),
     }
 }
 

@@ -1,5 +1,7 @@
 // The places that wait for their nodes while a formula is laid.
 use crate::nodes::Kind;
+use crate::operands::Operands;
+use crate::operands::operands_of;
 ghost use mathlib.Core.Path.{_≡_};
 ghost use Prim.Native.Nat.{_≤_};
 ghost use Rattle.formula.specs.Waiting.{waitingRoom, waitFor, waitOver};
@@ -29,20 +31,22 @@ pub fn with_place(waiting: Waiting, place: usize) -> Waiting
     more
 }
 
+// Two places more, before the others: the first and then the second.
+fn with_two(waiting: Waiting, first: usize, second: usize) -> Waiting
+    requires { ⌜ (2 ≤ waiting .from) × (waiting .from ≤ waitingRoom) ⌝ }
+    ensures { λ r. ⌜ r ≡ waitFor first (waitFor second waiting) ⌝ }
+{
+    with_place(with_place(waiting, second), first)
+}
+
 // The places of a node's operands before the others, the first operand's first.
 pub fn with_operands(waiting: Waiting, kind: Kind) -> Waiting
     requires { ⌜ (2 ≤ waiting .from) × (waiting .from ≤ waitingRoom) ⌝ }
     ensures { λ r. ⌜ r ≡ waitOver kind waiting ⌝ }
 {
-    match kind {
-        Kind::Always => waiting,
-        Kind::Label(_) => waiting,
-        Kind::Negated(a) => with_place(waiting, a),
-        Kind::Both(a, b) => with_place(with_place(waiting, b), a),
-        Kind::Chance {
-            comparison: _,
-            threshold: _,
-            path,
-        } => with_place(with_place(waiting, path.second), path.first),
+    match operands_of(kind) {
+        Operands::None => waiting,
+        Operands::One(a) => with_place(waiting, a),
+        Operands::Two(a, b) => with_two(waiting, a, b),
     }
 }

@@ -3,11 +3,10 @@ use Prim.Native.Nat.{ℕ, _<_}
 use mathlib.Core.Path.{_≡_}
 use mathlib.Core.List.{List, tail}
 use mathlib.Core.Option.{Option, none, some}
-use Rattle.csl.specs.Text.{Text, bytes}
-use Rattle.csl.specs.Hours.{hundredthsOf}
+use Rattle.csl.specs.Text.{Text}
 use Rattle.csl.specs.Formula as formula
 use Rattle.csl.specs.Grammar as grammar
-use Rattle.csl.specs.Grammar.{Found, nothing, numberOf, onToken, onWord}
+use Rattle.csl.specs.Grammar.{Found, nothing, numberOf, onToken}
 use Rattle.verdicts.specs.Paper.{comparisonOf}
 use Rattle.grammar.specs.declared.chance.Sign.{Sign}
 use Rattle.grammar.specs.declared.chance.Sign.the-variants as sign
@@ -29,19 +28,12 @@ abbrev pub AmountFits : Amount → Type 0
 AmountFits (amount.Is v) = v < 10000000000
 AmountFits amount.Missing = Unit {0}
 
--- what comes behind a bound, or behind hours, that were read: nothing where they are missing
+-- what comes behind a bound that was read: nothing where it is missing
 abbrev pub boundThen : Bound → (formula.Comparison → ℕ → List Text → Found) → List Text → Found
 boundThen (bound.Is c p) next ts = next (comparisonOf c) p ts
 boundThen bound.Missing next ts = nothing
 
-abbrev pub hoursThen : Amount → (ℕ → List Text → Found) → List Text → Found
-hoursThen (amount.Is t) next ts = next t ts
-hoursThen amount.Missing next ts = nothing
-
--- what was read of the first two tokens: csl's reader goes on behind a comparison and a threshold, or behind `U` and the hours, or stops there
+-- what was read of the first two tokens: csl's reader goes on behind a comparison and a threshold, or stops there
 abbrev pub BoundRead : List Text → Bound → Type 0
 BoundRead ts b = (next : formula.Comparison → ℕ → List Text → Found)
     → onToken grammar.comparisonOf ts (λ c more. onToken numberOf more (next c)) ≡ boundThen b next (tail (tail ts))
-
-abbrev pub HoursRead : List Text → Amount → Type 0
-HoursRead ts h = (next : ℕ → List Text → Found) → onWord (bytes "U") ts (λ more. onToken hundredthsOf more next) ≡ hoursThen h next (tail (tail ts))

@@ -3,15 +3,14 @@
 use mathlib.Core.Path.{_≡_, refl, sym}
 use Prim.Native.Nat.{ℕ, zero, suc, _≤_}
 use native.Mathlib.Omega.{arith}
-use mathlib.Core.Bool.{Bool, true, false}
 use mathlib.Core.List.{List, [], _∷_, headD, tail}
 use mathlib.Core.Option.{Option, none, some}
 use lib.ListN.{length}
 use Rattle.csl.specs.Text.{Text, same, every}
 use Rattle.csl.specs.Labels.{isWord}
 use Rattle.csl.specs.Hours.{hundredthsOf}
-use Rattle.csl.specs.Formula.{Formula, both, chance, until, Comparison}
-use Rattle.csl.specs.Grammar.{Found, nothing, found, Reader, andThen, comparisonOf, numberOf, onToken, onWord, pair, path, Head, truth, name, bang, ampersand, chances, other, headOf, state, readState}
+use Rattle.csl.specs.Formula.{Formula, negated, both, chance, until, nextMove, Comparison}
+use Rattle.csl.specs.Grammar.{Found, nothing, found, Reader, andThen, comparisonOf, numberOf, onToken, single, pair, PathHead, untils, nexts, noPath, pathHeadOf, pathBehind, path, Head, truth, name, bang, ampersand, chances, other, headOf, state, readState}
 use Rattle.grammar.specs.Left.{Leaves, none-read, left, Steady, steps-leave, last-length}
 
 -- a state formula at the head of the tokens, as csl reads it
@@ -22,7 +21,7 @@ read ts = readState (length ts) ts
 abbrev Agree : ℕ → Reader → Reader → Type 0
 Agree n r s = (ts : List Text) → length ts ≤ n → r ts ≡ s ts
 
--- what reads on after a token that spells something, or after a word, may be put for what does the same on all shorter tokens
+-- what reads on after a token that spells something may be put for what does the same on all shorter tokens
 token-agrees : {A : Type 0} (spelled : Text → Option A) (ts : List Text) (f g : A → List Text → Found)
     → ((a : A) → (more : List Text) → length more ≤ length ts → f a more ≡ g a more) → onToken spelled ts f ≡ onToken spelled ts g
 unfolding onToken
@@ -33,17 +32,11 @@ token-agrees {A} spelled (w ∷ ts) f g h = go (spelled w)
     go none = refl
     go (some a) = h a ts (omega arith)
 
-word-agrees : (x : Text) (ts : List Text) (f g : List Text → Found)
-    → ((more : List Text) → length more ≤ length ts → f more ≡ g more) → onWord x ts f ≡ onWord x ts g
-unfolding onWord
-word-agrees x [] f g h = refl
-word-agrees x (w ∷ ts) f g h = go (same w x)
-  where
-    go : (o : Bool) → _≡_ {A = Found} (elim o [ true ↦ f ts | false ↦ nothing ]) (elim o [ true ↦ g ts | false ↦ nothing ])
-    go true = h ts (omega arith)
-    go false = refl
-
 module _ (n : ℕ) (r s : Reader) (agree : Agree n r s) (steady : Steady s) where
+  single-agrees : (make : Formula → Formula) → Agree n (single r make) (single s make)
+  unfolding single
+  single-agrees make ts h = rw (agree ts h)
+
   pair-agrees : (make : Formula → Formula → Formula) → Agree n (pair r make) (pair s make)
   unfolding pair andThen
   pair-agrees make ts h = rw (agree ts h) (go (steady ts))
@@ -53,16 +46,23 @@ module _ (n : ℕ) (r s : Reader) (agree : Agree n r s) (steady : Steady s) wher
       go none-read = refl
       go (left {rest = more} l) = rw (agree more (omega (arith, last-length l)))
 
+  path-behind-agrees : (c : Comparison) (p : ℕ) (h : PathHead) → Agree n (pathBehind r c p h) (pathBehind s c p h)
+  unfolding pathBehind
+  path-behind-agrees c p untils ts l =
+      token-agrees hundredthsOf ts _ _ λ t rest k. pair-agrees (λ a b. chance c p (until t a b)) rest (omega arith)
+  path-behind-agrees c p nexts ts l = single-agrees (λ a. chance c p (nextMove a)) ts l
+  path-behind-agrees c p noPath ts l = refl
+
   path-agrees : (c : Comparison) (p : ℕ) → Agree n (path r c p) (path s c p)
   unfolding path
-  path-agrees c p ts h =
-      word-agrees _ ts _ _ λ more k. token-agrees hundredthsOf more _ _ λ t rest l. pair-agrees (λ a b. chance c p (until t a b)) rest (omega arith)
+  path-agrees c p [] l = refl
+  path-agrees c p (w ∷ ts) l = path-behind-agrees c p (pathHeadOf w) ts (omega arith)
 
   state-agrees : (w : Text) (h : Head) → Agree n (state r w h) (state s w h)
-  unfolding state andThen
+  unfolding state
   state-agrees w truth ts l = refl
   state-agrees w name ts l = refl
-  state-agrees w bang ts l = rw (agree ts l)
+  state-agrees w bang ts l = single-agrees negated ts l
   state-agrees w ampersand ts l = pair-agrees both ts l
   state-agrees w chances ts l =
       token-agrees comparisonOf ts _ _ λ c more k. token-agrees numberOf more _ _ λ p rest m. path-agrees c p rest (omega arith)

@@ -2,15 +2,14 @@
 use mathlib.Core.Path.{_≡_, refl, _∙_}
 use Prim.Native.Nat.{ℕ, zero, suc, _+_, _≤_}
 use native.Mathlib.Omega.{arith}
-use mathlib.Core.Bool.{Bool, true, false}
 use mathlib.Core.List.{List, [], _∷_}
 use mathlib.Core.Option.{Option, none, some}
 use lib.ListN.{length, drop, length-drop}
 use lib.Seq.{drop-drop}
-use Rattle.csl.specs.Text.{Text, same}
+use Rattle.csl.specs.Text.{Text}
 use Rattle.csl.specs.Hours.{hundredthsOf}
-use Rattle.csl.specs.Formula.{Formula, both, chance, until, Comparison}
-use Rattle.csl.specs.Grammar.{Found, nothing, found, Reader, andThen, comparisonOf, numberOf, onToken, onWord, pair, path, Head, truth, name, bang, ampersand, chances, other, headOf, state, readState}
+use Rattle.csl.specs.Formula.{Formula, negated, both, chance, until, nextMove, Comparison}
+use Rattle.csl.specs.Grammar.{Found, nothing, found, Reader, andThen, comparisonOf, numberOf, onToken, single, pair, PathHead, untils, nexts, noPath, pathHeadOf, pathBehind, path, Head, truth, name, bang, ampersand, chances, other, headOf, state, readState}
 
 -- the last of the tokens ts
 pub record Last (ts rest : List Text) : Type 0 where
@@ -59,30 +58,32 @@ token-leaves {A} spelled (w ∷ ts) next h = go (spelled w)
     go none = none-read
     go (some a) = within (last-more (last-all ts)) (h a ts)
 
-word-leaves : (x : Text) (ts : List Text) (next : List Text → Found) → ((more : List Text) → Leaves more (next more)) → Leaves ts (onWord x ts next)
-unfolding onWord
-word-leaves x [] next h = none-read
-word-leaves x (w ∷ ts) next h = go (same w x)
-  where
-    go : (o : Bool) → Leaves (w ∷ ts) (elim o [ true ↦ next ts | false ↦ nothing ])
-    go false = none-read
-    go true = within (last-more (last-all ts)) (h ts)
-
 module _ (read : Reader) (steady : Steady read) where
+  single-leaves : (make : Formula → Formula) → Steady (single read make)
+  unfolding single
+  single-leaves make ts = then-leaves _ (steady ts) λ a rest l. left l
+
   pub pair-leaves : (make : Formula → Formula → Formula) → Steady (pair read make)
   unfolding pair
   pair-leaves make ts =
       then-leaves _ (steady ts) λ a more l. within l (then-leaves _ (steady more) λ b rest m. left m)
 
+  path-behind-leaves : (r : Comparison) (p : ℕ) (h : PathHead) → Steady (pathBehind read r p h)
+  unfolding pathBehind
+  path-behind-leaves r p untils ts = token-leaves hundredthsOf ts _ λ t rest. pair-leaves (λ a b. chance r p (until t a b)) rest
+  path-behind-leaves r p nexts ts = single-leaves (λ a. chance r p (nextMove a)) ts
+  path-behind-leaves r p noPath ts = none-read
+
   pub path-leaves : (r : Comparison) (p : ℕ) → Steady (path read r p)
   unfolding path
-  path-leaves r p ts = word-leaves _ ts _ λ more. token-leaves hundredthsOf more _ λ t rest. pair-leaves (λ a b. chance r p (until t a b)) rest
+  path-leaves r p [] = none-read
+  path-leaves r p (w ∷ ts) = within (last-more (last-all ts)) (path-behind-leaves r p (pathHeadOf w) ts)
 
   pub state-leaves : (w : Text) (h : Head) → Steady (state read w h)
   unfolding state
   state-leaves w truth ts = left (last-all ts)
   state-leaves w name ts = left (last-all ts)
-  state-leaves w bang ts = then-leaves _ (steady ts) λ a rest l. left l
+  state-leaves w bang ts = single-leaves negated ts
   state-leaves w ampersand ts = pair-leaves both ts
   state-leaves w chances ts = token-leaves comparisonOf ts _ λ r more. token-leaves numberOf more _ λ p rest. path-leaves r p rest
   state-leaves w other ts = none-read

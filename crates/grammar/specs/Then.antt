@@ -1,8 +1,7 @@
--- How csl's reader goes on behind a token that spells something and behind a word: by the first token, an empty one where there is none,
+-- How csl's reader goes on behind a token that spells something, and in a path formula: by the first token, an empty one where there is none,
 -- which spells nothing. Assumes nothing.
 use mathlib.Core.Path.{_≡_, refl}
 use Prim.Native.Nat.{ℕ}
-use mathlib.Core.Bool.{Bool, true, false, cond}
 use mathlib.Core.List.{List, [], _∷_, headD, tail}
 use mathlib.Core.Option.{Option, none, some}
 use Rattle.csl.specs.Text.{Text, same, every}
@@ -10,7 +9,7 @@ use Rattle.csl.specs.Number.{isNumber}
 use Rattle.csl.specs.Line.{parts}
 use Rattle.csl.specs.Hours.{hundredthsIn, hundredthsOf}
 use Rattle.csl.specs.Formula.{Comparison}
-use Rattle.csl.specs.Grammar.{Found, nothing, comparisonOf, numberOf, onToken, onWord}
+use Rattle.csl.specs.Grammar.{Found, nothing, Reader, comparisonOf, numberOf, onToken, pathHeadOf, pathBehind, path}
 
 abbrev pub tokenThen : {A : Type 0} → Option A → (A → List Text → Found) → List Text → Found
 tokenThen none next ts = nothing
@@ -41,12 +40,9 @@ pub hours-then : (ts : List Text) (next : ℕ → List Text → Found)
 unfolding hundredthsOf hundredthsIn parts isNumber every
 hours-then = token-then hundredthsOf refl
 
-pub word-then : (b : ℕ) (x : Text) (ts : List Text) (next : List Text → Found)
-    → onWord (b ∷ x) ts next ≡ cond (same (headD ts []) (b ∷ x)) (next (tail ts)) nothing
-unfolding onWord headD same
-word-then b x [] next = refl
-word-then b x (w ∷ ts) next = go (same w (b ∷ x))
-  where
-    go : (p : Bool) → _≡_ {A = Found} (elim p [ true ↦ next ts | false ↦ nothing ]) (cond p (next ts) nothing)
-    go true = refl
-    go false = refl
+-- a path formula, by its first token
+pub path-then : (read : Reader) (r : Comparison) (p : ℕ) (ts : List Text)
+    → path read r p ts ≡ pathBehind read r p (pathHeadOf (headD ts [])) (tail ts)
+unfolding path pathBehind pathHeadOf headD same
+path-then read r p [] = refl
+path-then read r p (w ∷ ts) = refl

@@ -74,8 +74,15 @@ module _ (mark : ℕ) where
 pub token-within : (s w t : Text) → w ≡ headD (tokens s) [] → t ≡ afterPart space s → length w + length t ≤ length s
 token-within s w t e f = rw (e, f) (behind-length space s)
 
+-- t is the rest s after its first token, or its first two
+pub one-within : (s t : Text) → t ≡ afterPart space s → length t ≤ length s
+one-within s t e = rw e (after-within space s)
+
 pub two-within : (s t : Text) → t ≡ afterPart space (afterPart space s) → length t ≤ length s
 two-within s t e = rw e (omega (arith, after-within space (afterPart space s), after-within space s))
+
+pub one-tail : (s t : Text) → t ≡ afterPart space s → tail (tokens s) ≡ tokens t
+one-tail s t e = rw (e, behind-tail)
 
 pub two-tail : (s t : Text) → t ≡ afterPart space (afterPart space s) → tail (tail (tokens s)) ≡ tokens t
 two-tail s t e = rw (e, behind-tail, behind-tail)

@@ -1,12 +1,11 @@
-// What stands between `P` and its operands: a comparison, a threshold, `U` and hours.
-use crate::hours::read_hundredths;
+// What stands between `P` and its path formula: a comparison and a threshold.
 use limits::FORMULA_DIGITS;
 use texts::Num;
 use verdicts::Comparison;
 ghost use mathlib.Core.Path.{_≡_};
 ghost use Rattle.csl.specs.Grammar.{comparisonOf, numberOf};
 ghost use Rattle.grammar.specs.Tokens.{tokens};
-ghost use Rattle.grammar.specs.Chance.{signMeant, amountMeant, AmountFits, BoundRead, HoursRead};
+ghost use Rattle.grammar.specs.Chance.{signMeant, amountMeant, AmountFits, BoundRead};
 
 // A comparison, or none.
 enum Sign {
@@ -73,17 +72,5 @@ pub fn read_bound(s: &[u8]) -> Bound
             Amount::Missing => Bound::Missing,
             Amount::Is(p) => Bound::Is(c, p),
         },
-    }
-}
-
-// The hundredths of the hours behind `U`, the first two tokens: csl's reader goes on behind them, or stops there.
-pub fn read_hours(s: &[u8]) -> Amount
-    ensures { λ r. ⌜ HoursRead (tokens (now (s .entry))) r ⌝ }
-{
-    let t = texts::after(s, b' ');
-    if texts::same(texts::part(s, b' '), b"U") {
-        read_hundredths(texts::part(t, b' '))
-    } else {
-        Amount::Missing
     }
 }

@@ -2,7 +2,7 @@
 use mathlib.Core.Path.{_≡_, refl, sym, ap, _∙_}
 use Prim.Native.Nat.{ℕ, _+_, _≤_, _<_}
 use native.Mathlib.Omega.{arith}
-use mathlib.Core.Bool.{Bool, true, false, not, _&&_, _||_, or-assoc, or-false}
+use mathlib.Core.Bool.{Bool, true, false, not, _&&_, _||_, or-false}
 use mathlib.Core.List.{List, [], _∷_}
 use lib.ListN.{length}
 use lib.Dec.{leb, ltb, eqb}
@@ -11,7 +11,7 @@ use Rattle.csl.specs.Text.{any}
 use Rattle.csl.specs.Moves.{Move, isBefore, isRising}
 use Rattle.moves.specs.Totals.{totalsOver}
 use Rattle.moves.specs.Tally.{begun, added, placeIn, tallied}
-use Rattle.csl.specs.Refusal.{strangeState, ownState}
+use Rattle.csl.specs.Refusal.{strangeState}
 use Rattle.moves.specs.declared.tally.Tally.{Tally}
 
 module _ (n : ℕ) where
@@ -30,12 +30,6 @@ module _ (n : ℕ) where
       four : (x y z w : Bool) → (x || y || z || w) ≡ (x || (y || z || w))
       four true y z w = refl
       four false y z w = refl
-
-  pub own-is : (a : Tally) (ms : List Move) → tallied n a ms .own ≡ (a .own || ownState ms)
-  unfolding tallied any
-  own-is a [] = sym (or-false (a .own))
-  own-is a (m ∷ ms) =
-      own-is (added n a (m .from) (m .to) (m .rate)) ms ∙ or-assoc (a .own) (eqb (m .from) (m .to)) (ownState ms)
 
   pub totals-are : (a : Tally) (ms : List Move) → tallied n a ms .totals ≡ totalsOver (a .totals) ms
   unfolding tallied totalsOver

@@ -2,10 +2,10 @@
 use mathlib.Core.Path.{_≡_, refl, sym, _∙_}
 use Prim.Native.Nat.{ℕ, _+_, _-_, _≤_, _<_}
 use native.Mathlib.Omega.{arith}
-use mathlib.Core.Bool.{Bool, true, false, cond, not, _&&_, or-false, and-eq-true-iff}
+use mathlib.Core.Bool.{Bool, true, false, cond, _&&_, or-false, and-eq-true-iff}
 use lib.ListN.{length, take, drop, length-drop}
-use lib.Dec.{leb, ltb, eqb}
-use borrow.Author.Tests.{lt-leb, le-ltb, ltb-true, leb-true, not-true}
+use lib.Dec.{leb, ltb}
+use borrow.Author.Tests.{lt-leb, le-ltb, ltb-true, leb-true}
 use Rattle.csl.specs.Text.{Text}
 use Rattle.csl.specs.Limits.{sheetBytes}
 use Rattle.csl.specs.Line.{lineFeed}
@@ -26,24 +26,22 @@ use Rattle.moves.specs.declared.tally.Tallied.the-variants.{Lines, Broke
 use Rattle.moves.proofs.TotalsLaw.{totals-begin, totals-fit, totals-go-on}
 
 pub unended-is : (b : Bool)
-    → record { layout = b; head = false; count = 0; strange = false; own = false; rising = b; rates = b; top = 0 } ≡ cond b bare broken
+    → record { layout = b; head = false; count = 0; strange = false; rising = b; rates = b; top = 0 } ≡ cond b bare broken
 unended-is true = refl
 unended-is false = refl
 
--- a line of known states, not its own, above the one before it, tells nothing but its rate
-pub plain-line : (n : ℕ) (a : Tally) (from to rate : ℕ) {x : Totals} → x ≡ totalsAdded (a .totals) from rate
-    → from < n → ltb to n ≡ true → not (eqb from to) ≡ true → leb (a .next) (placeIn from to) ≡ true
-    → record { count = a .count + 1; strange = a .strange; own = a .own; falling = a .falling; next = placeIn from to + 1; totals = x }
+-- a line of known states, above the one before it, tells nothing but its rate
+pub plain-line : (n : ℕ) (a : Tally) (from to rate : ℕ) {x : Totals} → x ≡ totalsAdded (a .totals) from to rate
+    → from < n → ltb to n ≡ true → leb (a .next) (placeIn from to) ≡ true
+    → record { count = a .count + 1; strange = a .strange; falling = a .falling; next = placeIn from to + 1; totals = x }
     ≡ added n a from to rate
-plain-line n a from to rate e h i j k =
+plain-line n a from to rate e h i k =
     rw (
       e,
       lt-leb n from h,
       lt-leb n to (ltb-true to n i),
-      not-true (eqb from to) j,
       le-ltb (placeIn from to) (a .next) (leb-true (a .next) (placeIn from to) k),
       or-false (a .strange),
-      or-false (a .own),
       or-false (a .falling),
     )
     (rw (or-false (a .strange)))
@@ -135,7 +133,7 @@ module _ {n : ℕ} {s t : Text} {a : Tally} (v : Tallying n s t a) where
           rw (e, rest-is)
           record {
             within = omega (arith, v .within, length-drop u t);
-            rates = totals-go-on (a .count) (a .totals) f x (v .rates) (k .2);
+            rates = totals-go-on (a .count) (a .totals) f o x (v .rates) (k .2);
             same = sym (tally-more t n a f o x u (sym g ∙ h)) ∙ v .same;
           }
 

@@ -18,11 +18,12 @@ use Rattle.texts.specs.Lines.{linesPass, nextLine}
 use Rattle.csl.specs.Chain.{greatest}
 use Rattle.moves.specs.Tally.{begun, tallied, talliedFrom}
 use Rattle.csl.specs.Refusal.{strangeState, wrongRate}
+use Rattle.accepted.specs.Rates.{others}
 use Rattle.moves.specs.Facts.{hasGoodRates, topOf, broken, bare, factsIn, movesFacts, factsFrom}
 use Rattle.moves.specs.declared.facts.MovesFacts.{MovesFacts}
 use Rattle.moves.specs.declared.tally.Tallied.{Tallied}
 use Rattle.moves.specs.declared.tally.Tallied.the-variants.{Lines, Broken}
-use Rattle.moves.proofs.FactsLaw.{count-is, strange-is, own-is, totals-are, falls-or-rises, Small, AllSmall, none, one}
+use Rattle.moves.proofs.FactsLaw.{count-is, strange-is, totals-are, falls-or-rises, Small, AllSmall, none, one}
 use Rattle.moves.proofs.TotalsLaw.{Telling, totals-tell}
 
 -- numbers of a sheet are below a billion
@@ -63,7 +64,7 @@ module _ (n : ℕ) (ms : List Move) (s : AllSmall ms) where
   top-is = go (strangeState n ms) (isRising ms) (wrongRate ms) refl refl refl
     where
       go : (x y z : Bool) → strangeState n ms ≡ x → isRising ms ≡ y → wrongRate ms ≡ z
-          → cond (x || not (y && not z)) 0 (tallied n begun ms .totals .top) ≡ cond (x || not (y && not z)) 0 (greatest (ratesOut ms) n)
+          → cond (x || not (y && not z)) 0 (tallied n begun ms .totals .top) ≡ cond (x || not (y && not z)) 0 (greatest (ratesOut (others ms)) n)
       go true y z d e f = refl
       go false true true d e f = refl
       go false true false d e f = told e .top-told d f
@@ -73,7 +74,7 @@ module _ (n : ℕ) (ms : List Move) (s : AllSmall ms) where
   facts-are head =
       let c : tallied n begun ms .count ≡ length ms = omega (arith, count-is n begun ms) in
       let r : not (tallied n begun ms .falling) ≡ isRising ms = rw (falls-or-rises n ms s) (Bool·not-not (isRising ms)) in
-      rw (c, strange-is n begun ms, own-is n begun ms, rates-are, top-is, r)
+      rw (c, strange-is n begun ms, rates-are, top-is, r)
 
 -- the text's head, and the tally of the lines after it
 module _ (n : ℕ) (text : Text) where
@@ -93,10 +94,10 @@ module _ (n : ℕ) (text : Text) where
       go false y e = refl
 
   unended : length text ≤ spanOf lineFeed text → cond (eqb (length text) 0) bare broken ≡ movesFacts n text
-  unfolding movesFacts movesLayout movesHead movesOf every any isRising same greatest ratesOut
+  unfolding movesFacts movesLayout movesHead movesOf every any isRising same greatest ratesOut others
   unended h = rw (ended-none text h, later-none text h, first-none text h) (go (eqb (length text) 0))
     where
-      nothing : (k : ℕ) → greatest (ratesOut []) k ≡ 0
+      nothing : (k : ℕ) → greatest (ratesOut (others [])) k ≡ 0
       nothing zero = refl
       nothing (suc k) = rw (nothing k)
 

@@ -6,7 +6,7 @@ use native.Mathlib.Nat.{le-refl}
 use mathlib.Core.Bool.{Bool, true, false, cond, _&&_, _||_, or-false, or-true, and-eq-true-iff}
 use mathlib.Core.List.{List, [], _∷_}
 use mathlib.Core.Logic.{_⊎_, inl, inr, ⊎-elim}
-use Rattle.accepted.specs.Rates.{Within, within-tested}
+use Rattle.accepted.specs.Rates.{Within, within-tested, others}
 use Rattle.numbers.specs.Sum.{greatest-le, greatest-most}
 use Rattle.csl.specs.Chain.{greatest}
 use lib.Dec.{ltb, eqb}
@@ -14,7 +14,7 @@ use borrow.Author.Tests.{lt-ltb, eq-eqb, ne-eqb, ltb-true, ltb-false, eqb-true, 
 use Rattle.csl.specs.Text.{any}
 use Rattle.csl.specs.Limits.{billion, mostRate, sheetBytes}
 use Rattle.csl.specs.Moves.{Move, isBefore, isRising, ratesOut}
-use Rattle.moves.specs.Totals.{totalsBegun, totalsAdded, totalsOver, TotalsFit, TotalsWithin}
+use Rattle.moves.specs.Totals.{sumAfter, awayShare, totalsBegun, totalsAdded, totalsOver, TotalsFit, TotalsWithin}
 use Rattle.csl.specs.Refusal.{strangeState, wrongRate}
 use Rattle.moves.specs.declared.totals.Totals.{Totals}
 
@@ -49,9 +49,32 @@ sorted (m ∷ b ∷ ms) h =
         let l : m .from ≤ b .from = up (ltb (m .from) (b .from)) (eqb (m .from) (b .from)) refl refl g in
         next (one l (lower (b .from) (m .from) ms l f)) (next f s)
 
--- what of a state's rates was added before
-abbrev carried : Totals → ℕ → ℕ
-carried a s = cond (eqb s (a .from)) (a .sum) 0
+-- the lines' shares out of a state: a line's share is its rate, or what of it goes to another state
+unfoldable outBy : (Move → ℕ) → List Move → ℕ → ℕ
+outBy r [] s = 0
+outBy r (m ∷ ms) s = cond (eqb (m .from) s) (r m) 0 + outBy r ms s
+
+abbrev all : Move → ℕ
+all m = m .rate
+
+abbrev away : Move → ℕ
+away m = awayShare (m .from) (m .to) (m .rate)
+
+out-all : (ms : List Move) (s : ℕ) → outBy all ms s ≡ ratesOut ms s
+unfolding outBy ratesOut
+out-all [] s = refl
+out-all (m ∷ ms) s = rw (out-all ms s)
+
+out-away : (ms : List Move) (s : ℕ) → outBy away ms s ≡ ratesOut (others ms) s
+unfolding outBy ratesOut others
+out-away [] s = refl
+out-away (m ∷ ms) s = go (eqb (m .from) (m .to)) (eqb (m .from) s) refl (out-away ms s)
+  where
+    go : (x y : Bool) → eqb (m .from) s ≡ y → outBy away ms s ≡ ratesOut (others ms) s
+        → cond y (cond x 0 (m .rate)) 0 + outBy away ms s ≡ ratesOut (cond x (others ms) (m ∷ others ms)) s
+    go true true e h = omega arith
+    go true false e h = omega arith
+    go false y e h = rw e (omega arith)
 
 -- a rate of 0, or rates that add up too high, where f says what a state's rates add up to
 abbrev wrongBy : (ℕ → ℕ) → Move → Bool
@@ -62,40 +85,44 @@ unfolding any
 any-cong f g k [] none h = refl
 any-cong f g k (m ∷ ms) (one l r) h = rw (h (m .from) l, any-cong f g k ms r h)
 
--- some line leaves s where the rates out of it are above 0
-any-here : (f : ℕ → ℕ) (s : ℕ) (ms : List Move) → 0 < ratesOut ms s → mostRate < f s → any (wrongBy f) ms ≡ true
-unfolding any ratesOut
-any-here f s [] h l = absurd (omega arith)
-any-here f s (m ∷ ms) h l = go (eqb (m .from) s) refl h (any-here f s ms)
+-- some line leaves s where the shares out of it are above 0
+any-here : (r : Move → ℕ) (f : ℕ → ℕ) (s : ℕ) (ms : List Move) → 0 < outBy r ms s → mostRate < f s → any (wrongBy f) ms ≡ true
+unfolding any outBy
+any-here r f s [] h l = absurd (omega arith)
+any-here r f s (m ∷ ms) h l = go (eqb (m .from) s) refl h (any-here r f s ms)
   where
-    go : (x : Bool) → eqb (m .from) s ≡ x → 0 < cond x (m .rate) 0 + ratesOut ms s
-        → (0 < ratesOut ms s → mostRate < f s → any (wrongBy f) ms ≡ true) → (wrongBy f m || any (wrongBy f) ms) ≡ true
+    go : (x : Bool) → eqb (m .from) s ≡ x → 0 < cond x (r m) 0 + outBy r ms s
+        → (0 < outBy r ms s → mostRate < f s → any (wrongBy f) ms ≡ true) → (wrongBy f m || any (wrongBy f) ms) ≡ true
     go true e q ih =
         let d : m .from ≡ s = eqb-true _ _ e in
         rw (d, lt-ltb mostRate (f s) l, or-true (eqb (m .rate) 0))
     go false e q ih = rw (ih (omega arith) l) (or-true (wrongBy f m))
 
--- the rates out of s in a list, with what was added before
-abbrev total : Totals → List Move → ℕ → ℕ
-total a ms s = carried a s + ratesOut ms s
+-- the shares out of s in a list, with the sum that was added before, over lines from one state
+abbrev total : (Move → ℕ) → (from sum : ℕ) → List Move → ℕ → ℕ
+total r from sum ms s = cond (eqb s from) sum 0 + outBy r ms s
 
--- a line more moves its rate from what is left to what was added
-total-next : (a : Totals) (m : Move) (ms : List Move) → a .from ≤ m .from → (s : ℕ) → m .from ≤ s
-    → total a (m ∷ ms) s ≡ total (totalsAdded a (m .from) (m .rate)) ms s
-unfolding ratesOut
-total-next a m ms l s k = go (eqb (m .from) s) refl
+-- a line more moves its share from what is left to what was added
+total-next : (r : Move → ℕ) (from sum : ℕ) (m : Move) (ms : List Move) → from ≤ m .from → (s : ℕ) → m .from ≤ s
+    → total r from sum (m ∷ ms) s ≡ total r (m .from) (sumAfter (eqb (m .from) from) sum (r m)) ms s
+unfolding outBy
+total-next r from sum m ms l s k = go (eqb (m .from) s) refl
   where
-    here : (w : Bool) → cond w (a .sum) 0 + (m .rate + ratesOut ms (m .from)) ≡ cond w (a .sum + m .rate) (m .rate) + ratesOut ms (m .from)
+    here : (w : Bool) → cond w sum 0 + (r m + outBy r ms (m .from)) ≡ cond w (sum + r m) (r m) + outBy r ms (m .from)
     here true = omega arith
     here false = omega arith
 
-    go : (x : Bool) → eqb (m .from) s ≡ x → total a (m ∷ ms) s ≡ total (totalsAdded a (m .from) (m .rate)) ms s
+    go : (x : Bool) → eqb (m .from) s ≡ x → total r from sum (m ∷ ms) s ≡ total r (m .from) (sumAfter (eqb (m .from) from) sum (r m)) ms s
     go true e =
         let q : s ≡ m .from = sym (eqb-true _ _ e) in
-        rw (q, eq-eqb (m .from) (m .from) refl) (here (eqb (m .from) (a .from)))
+        rw (q, eq-eqb (m .from) (m .from) refl) (here (eqb (m .from) from))
     go false e =
         let q : m .from ≡ s → ⊥ = eqb-false _ _ e in
-        rw (e, ne-eqb s (a .from) (omega arith), ne-eqb s (m .from) (omega arith)) (omega arith)
+        rw (e, ne-eqb s from (omega arith), ne-eqb s (m .from) (omega arith)) (omega arith)
+
+-- at the line's own state, what was added and what is left
+total-here : (r : Move → ℕ) (from sum : ℕ) (ms : List Move) → total r from sum ms from ≡ sum + outBy r ms from
+total-here r from sum ms = rw (eq-eqb from from refl)
 
 -- a state whose lines have not ended: its sum so far tells as much as the whole, as long as the lines left tell the rest
 merge : (s r : ℕ) (w : Bool) → (0 < r → mostRate < s + r → w ≡ true) → (ltb mostRate s || w) ≡ (ltb mostRate (s + r) || w)
@@ -118,32 +145,39 @@ group true y z u w h = refl
 group false true z u w h = refl
 group false false z u w h = h
 
+-- all rates, and those to other states, by what is carried
+abbrev whole : Totals → List Move → ℕ → ℕ
+whole a ms = total all (a .from) (a .sum) ms
+
+abbrev leaving : Totals → List Move → ℕ → ℕ
+leaving a ms = total away (a .from) (a .away) ms
+
 -- what is carried over sorted moves finds the wrong rates
-wrong-is : (a : Totals) (ms : List Move) → Sorted ms → AllFrom (a .from) ms → totalsOver a ms .wrong ≡ (a .wrong || any (wrongBy (total a ms)) ms)
+wrong-is : (a : Totals) (ms : List Move) → Sorted ms → AllFrom (a .from) ms → totalsOver a ms .wrong ≡ (a .wrong || any (wrongBy (whole a ms)) ms)
 unfolding totalsOver any
 wrong-is a [] empty f = sym (or-false (a .wrong))
 wrong-is a (m ∷ ms) (next r s) (one l f) =
-    let b = totalsAdded a (m .from) (m .rate) in
-    let same-left : any (wrongBy (total a (m ∷ ms))) ms ≡ any (wrongBy (total b ms)) ms =
-    any-cong (total a (m ∷ ms)) (total b ms) (m .from) ms r (total-next a m ms l) in
-    let whole : total a (m ∷ ms) (m .from) ≡ b .sum + ratesOut ms (m .from) =
-    total-next a m ms l (m .from) (le-refl (m .from)) ∙ rw (eq-eqb (m .from) (m .from) refl) in
-    let most : total b ms (m .from) ≡ b .sum + ratesOut ms (m .from) = rw (eq-eqb (m .from) (m .from) refl) in
+    let b = totalsAdded a (m .from) (m .to) (m .rate) in
+    let on = total-next all (a .from) (a .sum) m ms l in
+    let same-left : any (wrongBy (whole a (m ∷ ms))) ms ≡ any (wrongBy (whole b ms)) ms =
+    any-cong (whole a (m ∷ ms)) (whole b ms) (m .from) ms r on in
+    let here : whole b ms (m .from) ≡ b .sum + outBy all ms (m .from) = total-here all (m .from) (b .sum) ms in
+    let sum : whole a (m ∷ ms) (m .from) ≡ b .sum + outBy all ms (m .from) = on (m .from) (le-refl (m .from)) ∙ here in
     wrong-is b ms s r
-    ∙ rw (same-left, whole)
-    (group (a .wrong) (eqb (m .rate) 0) (ltb mostRate (b .sum)) (ltb mostRate (b .sum + ratesOut ms (m .from))) (any (wrongBy (total b ms)) ms)
-    (merge (b .sum) (ratesOut ms (m .from)) (any (wrongBy (total b ms)) ms)
-    (λ p q. any-here (total b ms) (m .from) ms p (rw most q))))
+    ∙ rw (same-left, sum)
+    (group (a .wrong) (eqb (m .rate) 0) (ltb mostRate (b .sum)) (ltb mostRate (b .sum + outBy all ms (m .from))) (any (wrongBy (whole b ms)) ms)
+    (merge (b .sum) (outBy all ms (m .from)) (any (wrongBy (whole b ms)) ms)
+    (λ p q. any-here all (whole b ms) (m .from) ms p (rw here q))))
 
 all-from : (ms : List Move) → AllFrom 0 ms
 all-from [] = none
 all-from (m ∷ ms) = let p : 0 ≤ m .from = omega arith in one p (all-from ms)
 
 -- nothing was added before the first
-from-nothing : (ms : List Move) (s : ℕ) → total totalsBegun ms s ≡ ratesOut ms s
-from-nothing ms s = go (eqb s 0)
+from-nothing : (r : Move → ℕ) (ms : List Move) (s : ℕ) → total r 0 0 ms s ≡ outBy r ms s
+from-nothing r ms s = go (eqb s 0)
   where
-    go : (x : Bool) → cond x 0 0 + ratesOut ms s ≡ ratesOut ms s
+    go : (x : Bool) → cond x 0 0 + outBy r ms s ≡ outBy r ms s
     go true = omega arith
     go false = omega arith
 
@@ -152,14 +186,14 @@ unfoldable topFrom : (ℕ → ℕ) → List Move → ℕ
 topFrom f [] = 0
 topFrom f (m ∷ ms) = max (f (m .from)) (topFrom f ms)
 
--- a state that no line leaves has no rate; one that a line leaves counts
-left-or-none : (f : ℕ → ℕ) (s : ℕ) (ms : List Move) → ratesOut ms s ≤ 0 ⊎ f s ≤ topFrom f ms
-unfolding ratesOut topFrom
-left-or-none f s [] = inl (omega arith)
-left-or-none f s (m ∷ ms) = go (eqb (m .from) s) refl (left-or-none f s ms)
+-- a state that no line leaves has no share; one that a line leaves counts
+left-or-none : (r : Move → ℕ) (f : ℕ → ℕ) (s : ℕ) (ms : List Move) → outBy r ms s ≤ 0 ⊎ f s ≤ topFrom f ms
+unfolding outBy topFrom
+left-or-none r f s [] = inl (omega arith)
+left-or-none r f s (m ∷ ms) = go (eqb (m .from) s) refl (left-or-none r f s ms)
   where
-    go : (x : Bool) → eqb (m .from) s ≡ x → ratesOut ms s ≤ 0 ⊎ f s ≤ topFrom f ms
-        → cond (eqb (m .from) s) (m .rate) 0 + ratesOut ms s ≤ 0 ⊎ f s ≤ max (f (m .from)) (topFrom f ms)
+    go : (x : Bool) → eqb (m .from) s ≡ x → outBy r ms s ≤ 0 ⊎ f s ≤ topFrom f ms
+        → cond (eqb (m .from) s) (r m) 0 + outBy r ms s ≤ 0 ⊎ f s ≤ max (f (m .from)) (topFrom f ms)
     go true e h = let z : m .from ≡ s = eqb-true _ _ e in inr (omega (arith, ap f z))
     go false e (inl h) = inl (rw e (omega arith))
     go false e (inr h) = inr (omega arith)
@@ -170,21 +204,21 @@ unfolding topFrom
 top-cong f g k [] none h = refl
 top-cong f g k (m ∷ ms) (one l r) h = rw (h (m .from) l, top-cong f g k ms r h)
 
--- what is carried over sorted moves finds the greatest sum
-top-is : (a : Totals) (ms : List Move) → Sorted ms → AllFrom (a .from) ms → totalsOver a ms .top ≡ max (a .top) (topFrom (total a ms) ms)
+-- what is carried over sorted moves finds the greatest sum that goes to other states
+top-is : (a : Totals) (ms : List Move) → Sorted ms → AllFrom (a .from) ms → totalsOver a ms .top ≡ max (a .top) (topFrom (leaving a ms) ms)
 unfolding totalsOver topFrom
 top-is a [] empty f = omega arith
 top-is a (m ∷ ms) (next r s) (one l f) =
-    let b = totalsAdded a (m .from) (m .rate) in
-    let same-left : topFrom (total a (m ∷ ms)) ms ≡ topFrom (total b ms) ms =
-    top-cong (total a (m ∷ ms)) (total b ms) (m .from) ms r (total-next a m ms l) in
-    let whole : total a (m ∷ ms) (m .from) ≡ b .sum + ratesOut ms (m .from) =
-    total-next a m ms l (m .from) (le-refl (m .from)) ∙ rw (eq-eqb (m .from) (m .from) refl) in
-    let most : total b ms (m .from) ≡ b .sum + ratesOut ms (m .from) = rw (eq-eqb (m .from) (m .from) refl) in
+    let b = totalsAdded a (m .from) (m .to) (m .rate) in
+    let on = total-next away (a .from) (a .away) m ms l in
+    let same-left : topFrom (leaving a (m ∷ ms)) ms ≡ topFrom (leaving b ms) ms =
+    top-cong (leaving a (m ∷ ms)) (leaving b ms) (m .from) ms r on in
+    let here : leaving b ms (m .from) ≡ b .away + outBy away ms (m .from) = total-here away (m .from) (b .away) ms in
+    let sum : leaving a (m ∷ ms) (m .from) ≡ b .away + outBy away ms (m .from) = on (m .from) (le-refl (m .from)) ∙ here in
     top-is b ms s r
-    ∙ rw (same-left, whole)
-    (⊎-elim (λ h. omega arith) (λ h. let q : b .sum + ratesOut ms (m .from) ≤ topFrom (total b ms) ms = rw most at h in omega arith)
-    (left-or-none (total b ms) (m .from) ms))
+    ∙ rw (same-left, sum)
+    (⊎-elim (λ h. omega arith) (λ h. let q : b .away + outBy away ms (m .from) ≤ topFrom (leaving b ms) ms = rw here at h in omega arith)
+    (left-or-none away (leaving b ms) (m .from) ms))
 
 -- where all lines name states below n, the greatest total of a state that a line leaves is the greatest of all
 top-least : (f : ℕ → ℕ) (b n : ℕ) (ms : List Move) → Within n ms → ((s : ℕ) → s < n → f s ≤ b) → topFrom f ms ≤ b
@@ -192,29 +226,30 @@ unfolding topFrom Within
 top-least f b n [] w h = omega arith
 top-least f b n (m ∷ ms) w h = omega (arith, h (m .from) (w .0), top-least f b n ms (w .2) h)
 
-top-greatest : (n : ℕ) (ms : List Move) → Within n ms → topFrom (ratesOut ms) ms ≡ greatest (ratesOut ms) n
+top-greatest : (n : ℕ) (ms : List Move) → Within n ms → topFrom (ratesOut (others ms)) ms ≡ greatest (ratesOut (others ms)) n
 top-greatest n ms w =
-    let low : topFrom (ratesOut ms) ms ≤ greatest (ratesOut ms) n = top-least (ratesOut ms) _ n ms w (λ s l. greatest-le (ratesOut ms) s n l) in
-    let high : greatest (ratesOut ms) n ≤ topFrom (ratesOut ms) ms
-    = greatest-most (ratesOut ms) _ n (λ s l. ⊎-elim (λ h. omega arith) (λ h. h) (left-or-none (ratesOut ms) s ms)) in
+    let f = ratesOut (others ms) in
+    let low : topFrom f ms ≤ greatest f n = top-least f _ n ms w (λ s l. greatest-le f s n l) in
+    let high : greatest f n ≤ topFrom f ms
+    = greatest-most f _ n (λ s l. ⊎-elim (λ h. omega (arith, out-away ms s)) (λ h. h) (left-or-none away f s ms)) in
     omega arith
 
--- what is carried over all lines tells condition 9 and, where it does not hold and all states are known, the greatest total
+-- what is carried over all lines tells condition 9 and, where it does not hold and all states are known, the greatest total to other states
 pub record Telling (n : ℕ) (ms : List Move) (a : Totals) : Type 0 where
   pub wrong-told : a .wrong ≡ wrongRate ms
-  pub top-told : strangeState n ms ≡ false → wrongRate ms ≡ false → a .top ≡ greatest (ratesOut ms) n
+  pub top-told : strangeState n ms ≡ false → wrongRate ms ≡ false → a .top ≡ greatest (ratesOut (others ms)) n
 
 pub totals-tell : (n : ℕ) (ms : List Move) → isRising ms ≡ true → Telling n ms (totalsOver totalsBegun ms)
 totals-tell n ms h =
     record {
       wrong-told =
           wrong-is totalsBegun ms (sorted ms h) (all-from ms)
-          ∙ any-cong (total totalsBegun ms) (ratesOut ms) 0 ms (all-from ms) (λ s k. from-nothing ms s);
+          ∙ any-cong (whole totalsBegun ms) (ratesOut ms) 0 ms (all-from ms) (λ s k. from-nothing all ms s ∙ out-all ms s);
       top-told = λ known good.
           top-is totalsBegun ms (sorted ms h) (all-from ms)
           ∙ omega (
             arith,
-            top-cong (total totalsBegun ms) (ratesOut ms) 0 ms (all-from ms) (λ s k. from-nothing ms s),
+            top-cong (leaving totalsBegun ms) (ratesOut (others ms)) 0 ms (all-from ms) (λ s k. from-nothing away ms s ∙ out-away ms s),
             top-greatest n ms (within-tested n ms known),
           );
     }
@@ -228,11 +263,17 @@ pub totals-fit : (count : ℕ) (a : Totals) → count ≤ sheetBytes → TotalsW
 unfolding TotalsFit TotalsWithin
 totals-fit count a l h = omega arith
 
-pub totals-go-on : (count : ℕ) (a : Totals) (from rate : ℕ) → TotalsWithin count a → rate < billion
-    → TotalsWithin (count + 1) (totalsAdded a from rate)
+sum-goes-on : (on : Bool) (count sum share : ℕ) → sum ≤ count * billion → share < billion → sumAfter on sum share ≤ (count + 1) * billion
+sum-goes-on true count sum share h l = omega arith
+sum-goes-on false count sum share h l = omega arith
+
+pub away-small : (own : Bool) (rate : ℕ) {x : ℕ} → x ≡ cond own 0 rate → rate < billion → x < billion
+away-small true rate e l = omega arith
+away-small false rate e l = omega arith
+
+pub totals-go-on : (count : ℕ) (a : Totals) (from to rate : ℕ) → TotalsWithin count a → rate < billion
+    → TotalsWithin (count + 1) (totalsAdded a from to rate)
 unfolding TotalsWithin
-totals-go-on count a from rate h l = go (eqb from (a .from))
-  where
-    go : (x : Bool) → cond x (a .sum + rate) rate ≤ (count + 1) * billion
-    go true = omega arith
-    go false = omega arith
+totals-go-on count a from to rate h l =
+    let on = eqb from (a .from) in
+    (sum-goes-on on count (a .sum) rate (h .0) l, sum-goes-on on count (a .away) (awayShare from to rate) (h .1) (away-small (eqb from to) rate refl l))

@@ -6,7 +6,8 @@ use lib.ListN.{length}
 use Rattle.csl.specs.Text.{Text}
 use Rattle.csl.specs.Moves.{Move, movesHead, movesLayout, movesOf, isRising, ratesOut}
 use Rattle.csl.specs.Chain.{greatest}
-use Rattle.csl.specs.Refusal.{strangeState, ownState, wrongRate}
+use Rattle.csl.specs.Refusal.{strangeState, wrongRate}
+use Rattle.accepted.specs.Rates.{others}
 use Rattle.moves.specs.declared.facts.MovesFacts.{MovesFacts}
 use Rattle.moves.specs.declared.tally.Tallied.{Tallied}
 use Rattle.moves.specs.declared.tally.Tallied.the-variants.{Lines, Broken}
@@ -15,17 +16,17 @@ use Rattle.moves.specs.declared.tally.Tallied.the-variants.{Lines, Broke
 abbrev pub hasGoodRates : List Move → Bool
 hasGoodRates ms = isRising ms && not (wrongRate ms)
 
--- the greatest of the states' totals: where the rates are good and all states are known, and 0 elsewhere
+-- the greatest total that goes from one state to others: where the rates are good and all states are known, and 0 elsewhere
 abbrev pub topOf : ℕ → List Move → ℕ
-topOf n ms = cond (strangeState n ms || not (hasGoodRates ms)) 0 (greatest (ratesOut ms) n)
+topOf n ms = cond (strangeState n ms || not (hasGoodRates ms)) 0 (greatest (ratesOut (others ms)) n)
 
 -- the layout is broken: nothing else is said
 abbrev pub broken : MovesFacts
-broken = record { layout = false; head = false; count = 0; strange = false; own = false; rising = false; rates = false; top = 0 }
+broken = record { layout = false; head = false; count = 0; strange = false; rising = false; rates = false; top = 0 }
 
 -- the empty text
 abbrev pub bare : MovesFacts
-bare = record { layout = true; head = false; count = 0; strange = false; own = false; rising = true; rates = true; top = 0 }
+bare = record { layout = true; head = false; count = 0; strange = false; rising = true; rates = true; top = 0 }
 
 -- the facts of moves whose layout is right
 abbrev pub factsIn : ℕ → Bool → List Move → MovesFacts
@@ -35,7 +36,6 @@ factsIn n head ms =
       head = head;
       count = length ms;
       strange = strangeState n ms;
-      own = ownState ms;
       rising = isRising ms;
       rates = hasGoodRates ms;
       top = topOf n ms;
@@ -53,7 +53,6 @@ factsFrom head (Lines y) =
       head = head;
       count = y .count;
       strange = y .strange;
-      own = y .own;
       rising = not (y .falling);
       rates = not (y .falling || y .totals .wrong);
       top = cond (y .strange || not (not (y .falling || y .totals .wrong))) 0 (y .totals .top);

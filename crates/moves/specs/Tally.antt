@@ -2,7 +2,7 @@
 use Prim.Native.Nat.{ℕ, _+_, _*_, _<_}
 use mathlib.Core.Bool.{false, cond, _||_}
 use mathlib.Core.List.{List, [], _∷_, map}
-use lib.Dec.{leb, ltb, eqb}
+use lib.Dec.{leb, ltb}
 use Rattle.csl.specs.Text.{Text}
 use Rattle.csl.specs.Limits.{billion}
 use Rattle.csl.specs.Line.{linesOf}
@@ -15,7 +15,7 @@ use Rattle.moves.specs.declared.tally.Tallied.{Tallied}
 use Rattle.moves.specs.declared.tally.Tallied.the-variants.{Lines, Broken}
 
 abbrev pub begun : Tally
-begun = record { count = 0; strange = false; own = false; falling = false; next = 0; totals = totalsBegun }
+begun = record { count = 0; strange = false; falling = false; next = 0; totals = totalsBegun }
 
 -- where a move stands in order: by `from`, then by `to`, each below 2 ^ 30
 abbrev pub placeIn : ℕ → ℕ → ℕ
@@ -27,10 +27,9 @@ added n a from to rate =
     record {
       count = a .count + 1;
       strange = a .strange || leb n from || leb n to;
-      own = a .own || eqb from to;
       falling = a .falling || ltb (placeIn from to) (a .next);
       next = placeIn from to + 1;
-      totals = totalsAdded (a .totals) from rate;
+      totals = totalsAdded (a .totals) from to rate;
     }
 
 -- numbers that a tally takes without passing 64 bits

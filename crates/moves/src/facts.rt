@@ -1,6 +1,7 @@
 // The facts of a moves text that the refusals ask for.
 use crate::tally::Tallied;
 use crate::tally::tally_lines;
+use crate::totals::unless;
 ghost use mathlib.Core.Path.{_≡_};
 ghost use Prim.Native.Nat.{_≤_};
 ghost use mathlib.Core.Bool.{cond};
@@ -9,13 +10,12 @@ ghost use Rattle.csl.specs.Limits.{sheetBytes};
 ghost use Rattle.moves.specs.Facts.{bare, broken, factsFrom, movesFacts};
 
 // What the refusals ask of the moves text. All but `layout` speak of a text whose layout is right. `rates` says that the moves rise and their
-// rates are good; `top` is the greatest sum of rates out of one state where they do and all states are known, and 0 elsewhere.
+// rates are good; `top` is the greatest sum of rates from one state to others where they do and all states are known, and 0 elsewhere.
 pub struct MovesFacts {
     pub layout: bool,
     pub head: bool,
     pub count: usize,
     pub strange: bool,
-    pub own: bool,
     pub rising: bool,
     pub rates: bool,
     pub top: u64,
@@ -30,18 +30,10 @@ fn unended(layout: bool) -> MovesFacts
         head: false,
         count: 0,
         strange: false,
-        own: false,
         rising: layout,
         rates: layout,
         top: 0,
     }
-}
-
-// x unless the test holds, then 0.
-fn unless(test: bool, x: u64) -> u64
-    ensures { λ r. ⌜ r ≡ cond test 0 x ⌝ }
-{
-    if test { 0 } else { x }
 }
 
 // The facts of a moves text, from its first line and its other lines.
@@ -57,7 +49,6 @@ fn facts_of(head: bool, lines: Tallied) -> MovesFacts
                 head: head,
                 count: y.count,
                 strange: y.strange,
-                own: y.own,
                 rising: !y.falling,
                 rates: rates,
                 top: unless(y.strange | !rates, y.totals.top),

@@ -11,12 +11,11 @@ ghost use Rattle.moves.specs.Tally.{Addable, added, begun, talliedAt};
 // The numbers of a line are below this, so that its place in order, by `from` and then by `to`, is one number.
 const PLACES: u64 = 1073741824;
 
-// What the lines so far say: how many; a state past the last; a move to its own state; a line not above the one before it; the least place
-// in order that the next line may have; and their rates.
+// What the lines so far say: how many; a state past the last; a line not above the one before it; the least place in order that the next line
+// may have; and their rates.
 pub struct Tally {
     pub count: usize,
     pub strange: bool,
-    pub own: bool,
     pub falling: bool,
     pub next: u64,
     pub totals: Totals,
@@ -30,7 +29,6 @@ impl Tally {
         Tally {
             count: 0,
             strange: false,
-            own: false,
             falling: false,
             next: 0,
             totals: Totals::new(),
@@ -44,14 +42,13 @@ impl Tally {
     {
         let place = from * PLACES + to;
         let before = self.totals;
-        let totals = before.add(from, rate);
+        let totals = before.add(from, to, rate);
         let count = self.count + 1;
         let next = place + 1;
-        if from < states && to < states && from != to && self.next <= place {
+        if from < states && to < states && self.next <= place {
             return Tally {
                 count: count,
                 strange: self.strange,
-                own: self.own,
                 falling: self.falling,
                 next: next,
                 totals: totals,
@@ -60,7 +57,6 @@ impl Tally {
         Tally {
             count: count,
             strange: self.strange | (states <= from) | (states <= to),
-            own: self.own | (from == to),
             falling: self.falling | (place < self.next),
             next: next,
             totals: totals,

@@ -1,10 +1,10 @@
--- A list whose part behind its first n entries was lent, and came back. Assumes nothing.
+-- A list whose first n entries were lent, or the part behind them, and came back. Assumes nothing.
 use mathlib.Core.Path.{_≡_, ap, sym, _∙_}
 use mathlib.Core.List.{List, [], _++_, append-nil}
-use Prim.Native.Nat.{ℕ, _+_, _-_, _≤_}
+use Prim.Native.Nat.{ℕ, _+_, _-_, _≤_, _<_}
 use native.Mathlib.Omega.{arith}
 use lib.ListN.{length, take, drop, length-take, length-drop, length-append, drop-of-length-le, List·getD-append}
-use lib.Seq.{take-all, getD-take, getD-drop, getD-append-add}
+use lib.Seq.{take-all, length-take-le, take-append-seam, getD-take, getD-drop, getD-append-add}
 use Rattle.numbers.specs.Filled.{at, Filled, Table, table-at, table-rest}
 
 -- the part, and the list with ys in its place
@@ -47,3 +47,23 @@ module _ (xs : List ℕ) (n : ℕ) {f : ℕ → ℕ} {ys : List ℕ} {m : ℕ} (
             let e : n + (k - n) ≡ k = omega arith in
             ap (at (back xs n ys)) (sym e) ∙ behind (k - n) ∙ table-rest t (k - n) (omega arith) ∙ rest-at xs n (k - n) ∙ ap (at xs) e;
       }
+
+-- a list with ys in the place of its first n entries
+module _ (xs ys : List ℕ) (n : ℕ) (h : n ≤ length xs) (e : length ys ≡ length (take n xs)) where
+  front-many : length ys ≡ n
+  front-many = e ∙ length-take-le n xs h
+
+  pub front-length : length (ys ++ drop n xs) ≡ length xs
+  front-length = length-append ys (drop n xs) ∙ omega (arith, front-many, length-drop n xs)
+
+  pub front-at : (k : ℕ) → k < n → at (ys ++ drop n xs) k ≡ at ys k
+  front-at k l = List·getD-append ys (drop n xs) 0 k (omega (arith, front-many))
+
+  pub front-beyond : (k : ℕ) → n ≤ k → at (ys ++ drop n xs) k ≡ at xs k
+  front-beyond k l =
+      let z : n + (k - n) ≡ k = omega arith in
+      let y : length ys + (k - n) ≡ k = omega (arith, front-many) in
+      ap (at (ys ++ drop n xs)) (sym y) ∙ getD-append-add ys (drop n xs) (k - n) 0 ∙ getD-drop n xs (k - n) 0 ∙ ap (at xs) z
+
+  pub front-taken : take n (ys ++ drop n xs) ≡ ys
+  front-taken = ap (λ (k : ℕ). take k (ys ++ drop n xs)) (sym front-many) ∙ take-append-seam ys (drop n xs)

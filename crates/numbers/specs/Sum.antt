@@ -7,7 +7,7 @@ use native.Mathlib.Nat.{le-refl, le-suc-iff}
 use mathlib.Core.Logic.{⊎-elim}
 use Rattle.csl.specs.Chain.{sumTo, greatest}
 use Rattle.numbers.specs.Hint.{le-times}
-pub use Rattle.csl.specs.Laws.Sum.{sum-le, sum-weighted, greatest-le}
+pub use Rattle.csl.specs.Laws.Sum.{sum-cong, sum-le, sum-weighted, greatest-cong, greatest-le}
 
 -- by the code's names
 pub sum-zero : (f : ℕ → ℕ) → sumTo f 0 ≡ 0
@@ -17,14 +17,6 @@ sum-zero f = refl
 pub sum-next : (f : ℕ → ℕ) (n : ℕ) → sumTo f (n + 1) ≡ sumTo f n + f n
 unfolding sumTo
 sum-next f n = rw add-one
-
--- functions that agree below n have one sum there
-pub sum-cong : (f g : ℕ → ℕ) (n : ℕ) → ((k : ℕ) → k < n → f k ≡ g k) → sumTo f n ≡ sumTo g n
-unfolding sumTo
-sum-cong f g zero h = refl
-sum-cong f g (suc n) h =
-    let r : (k : ℕ) → k < n → f k ≡ g k = λ k l. h k (omega arith) in
-    omega (arith, sum-cong f g n r, h n (omega arith))
 
 pub sum-add : (f g : ℕ → ℕ) (n : ℕ) → sumTo (λ k. f k + g k) n ≡ sumTo f n + sumTo g n
 unfolding sumTo
@@ -66,6 +58,14 @@ sum-weighted-from f g m i (suc n) l h =
     let r : (k : ℕ) → k < n → g k ≤ m = λ k b. h k (omega arith) in
     ⊎-elim (λ b. omega (arith, sum-weighted-from f g m i n b r, le-times (f n) (h n (omega arith)))) (λ e. rw e (omega arith))
     (le-suc-iff .0 l)
+
+-- a running sum, begun with x before the terms from one place on: one term more, and that it fits where all of them do
+pub running-is : (f : ℕ → ℕ) (sum x begin j : ℕ) → sum + sumTo f begin ≡ x + sumTo f j → sum + f j + sumTo f begin ≡ x + sumTo f (j + 1)
+running-is f sum x begin j e = omega (arith, sum-next f j)
+
+pub running-fits : (f : ℕ → ℕ) (sum x begin end j most : ℕ) → sum + sumTo f begin ≡ x + sumTo f j → x + sumTo f end < most + sumTo f begin → j < end
+    → sum + f j < most
+running-fits f sum x begin end j most e h l = omega (arith, sum-next f j, sum-mono f (j + 1) end (omega arith))
 
 -- each term at most c
 pub sum-most : (f : ℕ → ℕ) (c n : ℕ) → ((k : ℕ) → k < n → f k ≤ c) → sumTo f n ≤ n * c

@@ -7,7 +7,7 @@ use lib.ListN.{length}
 use mir.Val.{Fits}
 use mir.Syntax.{w64}
 use Rattle.csl.specs.Chain.{sumTo}
-use Rattle.numbers.specs.Sum.{sum-next, sum-mono}
+use Rattle.numbers.specs.Sum.{running-is, running-fits}
 use Rattle.rate_matrix.specs.Words.{at, toOf, rateOf, pull}
 use Rattle.vectors.specs.Places.{valueAt}
 use Rattle.phase.specs.Moving.{RowAsked, RowSummed}
@@ -20,13 +20,6 @@ pub record Inv (mv l : List ℕ) (n begin end x sum j : ℕ) : Type 0 where
 
 pub start : {mv l : List ℕ} {n begin end x : ℕ} → RowAsked mv l n begin end x → Inv mv l n begin end x x begin
 start p = record { asked = p; begun = omega arith; within = p .part; is = refl }
-
--- one term more: it fits, over any values
-term-fits : (f : ℕ → ℕ) (sum x begin end j : ℕ) → sum + sumTo f begin ≡ x + sumTo f j → x + sumTo f end < 2 ^ 64 + sumTo f begin → j < end → sum + f j < 2 ^ 64
-term-fits f sum x begin end j e h l = omega (arith, sum-next f j, sum-mono f (j + 1) end (omega arith))
-
-term-is : (f : ℕ → ℕ) (sum x begin j : ℕ) → sum + sumTo f begin ≡ x + sumTo f j → sum + f j + sumTo f begin ≡ x + sumTo f (j + 1)
-term-is f sum x begin j e = omega (arith, sum-next f j)
 
 module _ {mv l : List ℕ} {n begin end x sum j : ℕ} (v : Inv mv l n begin end x sum j) (h : j < end) where
   pub in-moves : j < length mv
@@ -44,7 +37,7 @@ module _ {mv l : List ℕ} {n begin end x sum j : ℕ} (v : Inv mv l n begin end
     term = rw (r, t) refl
 
     pub sum-fits : Fits w64 (sum + rate * at l (2 * n + to))
-    sum-fits = omega (arith, term, term-fits (pull mv (valueAt l n)) sum x begin end j (v .is) (v .asked .fits) h)
+    sum-fits = omega (arith, term, running-fits (pull mv (valueAt l n)) sum x begin end j (2 ^ 64) (v .is) (v .asked .fits) h)
 
     pub product-fits : Fits w64 (rate * at l (2 * n + to))
     product-fits = omega (arith, sum-fits)
@@ -55,7 +48,7 @@ module _ {mv l : List ℕ} {n begin end x sum j : ℕ} (v : Inv mv l n begin end
           asked = v .asked;
           begun = omega (arith, v .begun);
           within = omega arith;
-          is = rw term (term-is (pull mv (valueAt l n)) sum x begin j (v .is));
+          is = rw term (running-is (pull mv (valueAt l n)) sum x begin j (v .is));
         }
 
 pub finish : {mv l : List ℕ} {n begin end x sum j : ℕ} → Inv mv l n begin end x sum j → end ≤ j → RowSummed mv l n begin end x sum

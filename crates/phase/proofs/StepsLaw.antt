@@ -9,7 +9,7 @@ use mir.Val.{Fits}
 use mir.Syntax.{w64}
 use Rattle.numbers.specs.Filled.{Filled}
 use Rattle.bounds.specs.Unit.{one, part, part-most}
-use Rattle.vectors.specs.Places.{at, numberAt, vectorLength, nextAt, sumAt, weightAt, numberIn}
+use Rattle.vectors.specs.Places.{at, weightsFrom, numberAt, vectorLength, nextAt, sumAt, weightAt, numberIn}
 use Rattle.vectors.specs.Prepared.{rates-slow}
 use Rattle.phase.specs.Bound.{next-most}
 use Rattle.phase.specs.Moving.{Moved}
@@ -37,32 +37,32 @@ module _ (value sum : ℕ → ℕ) {l l₁ l₂ : List ℕ} {n w : ℕ} where
       }
 
 module _ {l : List ℕ} {n : ℕ} (p : BeginAsked l n) where
-  pub in-weights : 8 * n < length l
+  pub in-weights : weightsFrom n < length l
   in-weights = omega (arith, p .long)
 
   module _ {l₁ : List ℕ} (t : Filled (λ _. 0) (4 * n) n l l₁) where
     start-is : (s : ℕ) → s < n → nextAt l₁ n s ≡ nextAt l n s
     start-is s b = t .before (3 * n + s) (omega arith)
 
-    pub may-advance : AdvanceAsked l₁ n (at l (8 * n))
+    pub may-advance : AdvanceAsked l₁ n (at l (weightsFrom n))
     may-advance =
         record {
           states = p .states;
           room = omega (arith, t .same, p .long);
           weight = p .weight;
           values = λ s b. rw (start-is s b) (p .values s b);
-          fits = λ s b. rw (t .filled s b, start-is s b) (omega (arith, part-most (at l (8 * n)) (nextAt l n s) (p .weight) (p .values s b)));
+          fits = λ s b. rw (t .filled s b, start-is s b) (omega (arith, part-most (at l (weightsFrom n)) (nextAt l n s) (p .weight) (p .values s b)));
         }
 
-    pub is-begun : {l₂ : List ℕ} (a : ℕ) → a ≡ numberAt n → Advanced n (at l (8 * n)) l₁ l₂ → Begun n l (set l₂ a 0)
+    pub is-begun : {l₂ : List ℕ} (a : ℕ) → a ≡ numberAt n → Advanced n (at l (weightsFrom n)) l₁ l₂ → Begun n l (set l₂ a 0)
     is-begun a z v =
-        stands (nextAt l n) (λ s. part (at l (8 * n)) (nextAt l n s)) a 0 z v (p .long) (t .same) start-is
+        stands (nextAt l n) (λ s. part (at l (weightsFrom n)) (nextAt l n s)) a 0 z v (p .long) (t .same) start-is
         (λ s b. rw (t .filled s b) (omega arith)) (λ i b. t .before i (omega arith)) (λ i b. t .after i (omega arith))
 
-    pub in-number : {l₂ : List ℕ} (a : ℕ) → a ≡ numberAt n → Advanced n (at l (8 * n)) l₁ l₂ → a < length l₂
+    pub in-number : {l₂ : List ℕ} (a : ℕ) → a ≡ numberAt n → Advanced n (at l (weightsFrom n)) l₁ l₂ → a < length l₂
     in-number a z v = omega (arith, v .same, t .same, p .long)
 
-    pub begun-length : {l₂ : List ℕ} (a x : ℕ) → Advanced n (at l (8 * n)) l₁ l₂ → length (set l₂ a x) ≡ length l
+    pub begun-length : {l₂ : List ℕ} (a x : ℕ) → Advanced n (at l (weightsFrom n)) l₁ l₂ → length (set l₂ a x) ≡ length l
     begun-length {l₂} a x v = length-set l₂ a x ∙ v .same ∙ t .same
 
 pub ruleset begin-laws = (in-weights, may-advance, in-number, is-begun, begun-length)
@@ -74,18 +74,18 @@ module _ {mv l : List ℕ} {n q : ℕ} (p : StepAsked mv l n q) (a : ℕ) (z : a
   pub number-fits : Fits w64 (at l a + 1)
   number-fits = omega (arith, number-is, p .limit)
 
-  pub index-fits : Fits w64 (8 * n + (at l a + 1))
+  pub index-fits : Fits w64 (weightsFrom n + (at l a + 1))
   index-fits = omega (arith, number-is, p .limit, p .moving .rates .lines .states)
 
-  pub in-weight : 8 * n + (at l a + 1) < length l
+  pub in-weight : weightsFrom n + (at l a + 1) < length l
   in-weight = omega (arith, number-is, p .room, p .moving .rates .long)
 
   pub in-read : a < length l
   in-read = omega (arith, p .moving .rates .long)
 
   -- the step's weight, and a sum with its part, fit
-  weight-is : at l (8 * n + (at l a + 1)) ≡ weightAt l n (numberIn l n + 1)
-  weight-is = ap (λ (x : ℕ). at l (8 * n + (x + 1))) number-is
+  weight-is : at l (weightsFrom n + (at l a + 1)) ≡ weightAt l n (numberIn l n + 1)
+  weight-is = ap (λ (x : ℕ). at l (weightsFrom n + (x + 1))) number-is
 
   next-small : (s : ℕ) → s < n → nextOf mv l n q s ≤ one
   next-small s b =
@@ -95,7 +95,7 @@ module _ {mv l : List ℕ} {n q : ℕ} (p : StepAsked mv l n q) (a : ℕ) (z : a
     sum-is : (s : ℕ) → s < n → sumAt l₁ n s ≡ sumAt l n s
     sum-is s b = m .after (4 * n + s) (omega arith)
 
-    pub may-take : AdvanceAsked l₁ n (at l (8 * n + (at l a + 1)))
+    pub may-take : AdvanceAsked l₁ n (at l (weightsFrom n + (at l a + 1)))
     may-take =
         record {
           states = p .moving .rates .lines .states;
@@ -110,7 +110,7 @@ module _ {mv l : List ℕ} {n q : ℕ} (p : StepAsked mv l n q) (a : ℕ) (z : a
           ));
         }
 
-    pub is-stepped : {l₂ : List ℕ} → Advanced n (at l (8 * n + (at l a + 1))) l₁ l₂ → Stepped mv n q l (set l₂ a (at l a + 1))
+    pub is-stepped : {l₂ : List ℕ} → Advanced n (at l (weightsFrom n + (at l a + 1))) l₁ l₂ → Stepped mv n q l (set l₂ a (at l a + 1))
     is-stepped {l₂} v =
         let u : Advanced n (weightAt l n (numberIn l n + 1)) l₁ l₂ = rw weight-is at v in
         rw number-is

@@ -1,7 +1,7 @@
 -- The weights and their total, in their places. Assumes nothing.
 use mathlib.Core.Path.{_≡_, ap, sym, _∙_}
 use mathlib.Core.List.{List}
-use Prim.Native.Nat.{ℕ, _+_, _*_, _/_, _<_}
+use Prim.Native.Nat.{ℕ, _+_, _/_, _<_}
 use native.Mathlib.Omega.{arith}
 use lib.ListN.{length, set, length-set}
 use lib.Seq.{getD-set-same, getD-set-other}
@@ -9,12 +9,12 @@ use Rattle.csl.specs.Limits.{rateHundredths}
 use Rattle.numbers.specs.Filled.{Filled}
 use Rattle.bounds.specs.Weight.{low}
 use Rattle.bounds.specs.Ends.{total}
-use Rattle.vectors.specs.Places.{at, totalAt}
+use Rattle.vectors.specs.Places.{at, weightsFrom, totalAt}
 use Rattle.weights.specs.Asked.{Weigh}
 use Rattle.phase.specs.Load.{WeighAsked, Weighed}
 
 module _ {l : List ℕ} {n a depth : ℕ} (p : WeighAsked l n a depth) where
-  pub may-weigh : Weigh l (8 * n) (a / rateHundredths) depth a rateHundredths
+  pub may-weigh : Weigh l (weightsFrom n) (a / rateHundredths) depth a rateHundredths
   may-weigh =
       record {
         half = record {
@@ -29,7 +29,7 @@ module _ {l : List ℕ} {n a depth : ℕ} (p : WeighAsked l n a depth) where
         limit = omega (arith, p .deep, p .load .most);
       }
 
-  module _ {l₁ : List ℕ} {r : ℕ} (t : (r ≡ total a rateHundredths (a / rateHundredths) depth) × Filled (low a rateHundredths (a / rateHundredths)) (8 * n) (depth + 1) l l₁)
+  module _ {l₁ : List ℕ} {r : ℕ} (t : (r ≡ total a rateHundredths (a / rateHundredths) depth) × Filled (low a rateHundredths (a / rateHundredths)) (weightsFrom n) (depth + 1) l l₁)
       (z : ℕ) (e : z ≡ totalAt n) where
     pub in-total : z < length l₁
     in-total = omega (arith, p .long, t .1 .same)

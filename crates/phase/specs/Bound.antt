@@ -5,28 +5,11 @@ use mathlib.Core.List.{List}
 use Prim.Native.Nat.{ℕ, zero, suc, _*_, _-_, _/_, _≤_, _<_}
 use native.Mathlib.Omega.{arith}
 use native.Mathlib.Nat.{sub-add-cancel, div-le-of-le-mul}
-use lib.Dec.{eqb}
 use Rattle.numbers.specs.Hint.{le-times, eq-times}
-use Rattle.numbers.specs.Sum.{sum-le, sum-scale}
 use Rattle.bounds.specs.Unit.{one}
-use Rattle.rate_matrix.specs.Words.{fromOf, toOf, rateOf, outOf, exitOf, pull, flow}
-use Rattle.rate_matrix.specs.Lines.{flow-cong}
+use Rattle.rate_matrix.specs.Words.{toOf, exitOf}
+use Rattle.rate_matrix.specs.Lines.{flow-cong, flow-most}
 use Rattle.phase.specs.Value.{mixed, next, runOf}
-
-pull-most : (t : Bool) (r x o : ℕ) → x ≤ o → cond t (r * x) 0 ≤ cond t r 0 * o
-pull-most true r x o h = omega (arith, le-times r h)
-pull-most false r x o h = omega arith
-
-pub flow-most : (mv : List ℕ) (m n : ℕ) (v : ℕ → ℕ) (s : ℕ) → ((j : ℕ) → j < m → toOf mv j < n) → ((g : ℕ) → g < n → v g ≤ one)
-    → flow mv m v s ≤ exitOf mv m s * one
-unfolding flow exitOf
-flow-most mv m n v s h k =
-    omega (
-      arith,
-      sum-le (outOf mv s (pull mv v)) (λ j. outOf mv s (rateOf mv) j * one) m
-          (λ j l. pull-most (eqb (fromOf mv j) s) (rateOf mv j) (v (toOf mv j)) one (k (toOf mv j) (h j l))),
-      sum-scale (outOf mv s (rateOf mv)) one m,
-    )
 
 module _ (mv : List ℕ) (m n q : ℕ) (targets : (j : ℕ) → j < m → toOf mv j < n) where
   pub mixed-most : (v : ℕ → ℕ) → ((g : ℕ) → g < n → v g ≤ one) → (s : ℕ) → s < n → exitOf mv m s ≤ q → mixed mv m q v s ≤ q * one
@@ -34,7 +17,7 @@ module _ (mv : List ℕ) (m n q : ℕ) (targets : (j : ℕ) → j < m → toOf m
   mixed-most v k s h slow =
       omega (
         arith,
-        flow-most mv m n v s targets k,
+        flow-most mv m n v s one targets k,
         le-times (q - exitOf mv m s) (k s h),
         eq-times one (sub-add-cancel slow),
       )

@@ -3,6 +3,7 @@ pub mod Packed
 pub mod Words
 pub mod Lines
 pub mod Sorted
+pub mod Away
 pub mod Asked
 pub mod Shown
 pub mod ByPlace

@@ -9,7 +9,8 @@ use native.Mathlib.Nat.{ne-of-gt, eq-or-lt-of-le, le-of-suc-le-suc}
 use lib.Dec.{eqb}
 use borrow.Author.Tests.{eq-eqb, ne-eqb}
 use Rattle.csl.specs.Chain.{sumTo}
-use Rattle.numbers.specs.Sum.{sum-cong, sum-add}
+use Rattle.numbers.specs.Hint.{le-times}
+use Rattle.numbers.specs.Sum.{sum-cong, sum-add, sum-le, sum-scale}
 use Rattle.rate_matrix.specs.Words.{fromOf, toOf, rateOf, outOf, rateBetween, exitOf, pull, flow}
 
 nothing : (v : ℕ → ℕ) (n : ℕ) → sumTo (λ g. 0 * v g) n ≡ 0
@@ -69,3 +70,19 @@ unfolding flow
 flow-cong mv v u s n m h e =
     sum-cong (outOf mv s (pull mv v)) (outOf mv s (pull mv u)) m
     (λ j l. flow-term (eqb (fromOf mv j) s) (rateOf mv j) (v (toOf mv j)) (u (toOf mv j)) (e (toOf mv j) (h j l)))
+
+-- and where none is over a limit, what flows is at most the exit rate times it
+pull-most : (t : Bool) (r x most : ℕ) → x ≤ most → cond t (r * x) 0 ≤ cond t r 0 * most
+pull-most true r x most h = omega (arith, le-times r h)
+pull-most false r x most h = omega arith
+
+pub flow-most : (mv : List ℕ) (m n : ℕ) (v : ℕ → ℕ) (s most : ℕ) → ((j : ℕ) → j < m → toOf mv j < n) → ((g : ℕ) → g < n → v g ≤ most)
+    → flow mv m v s ≤ exitOf mv m s * most
+unfolding flow exitOf
+flow-most mv m n v s most h k =
+    omega (
+      arith,
+      sum-le (outOf mv s (pull mv v)) (λ j. outOf mv s (rateOf mv) j * most) m
+          (λ j l. pull-most (eqb (fromOf mv j) s) (rateOf mv j) (v (toOf mv j)) most (k (toOf mv j) (h j l))),
+      sum-scale (outOf mv s (rateOf mv)) most m,
+    )

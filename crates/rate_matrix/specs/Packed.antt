@@ -1,8 +1,10 @@
 -- A move as a word: a digit for each of its states, with room for as many states as a sheet can have, and its rate above them.
 -- Assumes nothing.
-use mathlib.Core.Path.{_≡_}
+use mathlib.Core.Path.{_≡_, refl}
+use mathlib.Core.Bool.{Bool, true, false, cond}
 use Prim.Native.Nat.{ℕ, _+_, _*_, _/_, _%_, _<_}
 use native.Mathlib.Omega.{arith}
+use lib.Dec.{eqb}
 use Rattle.csl.specs.Limits.{mostStates}
 use Rattle.csl.specs.Moves.{Move}
 
@@ -32,3 +34,40 @@ module _ (from to rate : ℕ) (f : from < mostStates) (t : to < mostStates) wher
 
   pub rate-packed : wordRate (packed from to rate) ≡ rate
   rate-packed = omega arith
+
+-- the word without its rate
+abbrev pub wordStates : ℕ → ℕ
+wordStates word = word % (mostStates * mostStates)
+
+-- the rate of a word that goes to its own state, and the word without that rate
+unfoldable pub wordOwn : ℕ → ℕ
+wordOwn word = cond (eqb (wordFrom word) (wordTo word)) (wordRate word) 0
+
+unfoldable pub wordAway : ℕ → ℕ
+wordAway word = cond (eqb (wordFrom word) (wordTo word)) (wordStates word) word
+
+-- its states stay
+module _ (word : ℕ) where
+  pub to-away : wordTo (wordAway word) ≡ wordTo word
+  unfolding wordAway
+  to-away = go (eqb (wordFrom word) (wordTo word))
+    where
+      go : (t : Bool) → wordTo (cond t (word % (mostStates * mostStates)) word) ≡ wordTo word
+      go true = omega arith
+      go false = refl
+
+  pub from-away : wordFrom (wordAway word) ≡ wordFrom word
+  unfolding wordAway
+  from-away = go (eqb (wordFrom word) (wordTo word))
+    where
+      go : (t : Bool) → wordFrom (cond t (word % (mostStates * mostStates)) word) ≡ wordFrom word
+      go true = omega arith
+      go false = refl
+
+  pub rate-away : wordRate (wordAway word) ≡ cond (eqb (wordFrom word) (wordTo word)) 0 (wordRate word)
+  unfolding wordAway
+  rate-away = go (eqb (wordFrom word) (wordTo word))
+    where
+      go : (t : Bool) → wordRate (cond t (word % (mostStates * mostStates)) word) ≡ cond t 0 (wordRate word)
+      go true = omega arith
+      go false = refl

@@ -1,25 +1,19 @@
 -- When words show a chain, and what the chain's rates are then. Assumes nothing.
 use mathlib.Core.Path.{_≡_, refl, ap, _∙_}
 use mathlib.Core.List.{List}
-use Prim.Native.Nat.{ℕ, zero, suc, _+_, _*_, _-_, _<_}
-use native.Mathlib.Omega.{arith}
+use Prim.Native.Nat.{ℕ, _+_, _*_, _-_, _<_}
 use Rattle.csl.specs.Chain.{Chain, sumTo, greatest, away, exitRate, topRate}
 use Rattle.csl.specs.Phase.{moved}
-use Rattle.numbers.specs.Sum.{sum-cong}
+use Rattle.numbers.specs.Sum.{sum-cong, greatest-cong}
 use Rattle.rate_matrix.specs.Words.{toOf, rateBetween, exitOf, topOf, flow}
 use Rattle.rate_matrix.specs.Lines.{by-lines, exit-by-lines}
 
--- the first m words show the chain c of n states: from each state to each other, the rates of the lines add up to the chain's, and no line
--- stays at its own state
+-- the first m words show the chain c of n states: from each state to each other, the rates of the words add up to the chain's, and no word
+-- has a rate to its own state
 pub record Shows (c : Chain) (mv : List ℕ) (m n : ℕ) : Type 0 where
   pub states : c .states ≡ n
   pub targets : (j : ℕ) → j < m → toOf mv j < n
   pub rates : (s g : ℕ) → s < n → g < n → away c s g ≡ rateBetween mv m s g
-
-greatest-cong : (f g : ℕ → ℕ) (n : ℕ) → ((s : ℕ) → s < n → f s ≡ g s) → greatest f n ≡ greatest g n
-unfolding greatest
-greatest-cong f g zero h = refl
-greatest-cong f g (suc n) h = rw (greatest-cong f g n (λ s l. h s (omega arith)), h n (omega arith)) refl
 
 module _ {c : Chain} {mv : List ℕ} {m n : ℕ} (p : Shows c mv m n) where
   pub exit-shown : (s : ℕ) → s < n → exitRate c s ≡ exitOf mv m s
@@ -33,11 +27,12 @@ module _ {c : Chain} {mv : List ℕ} {m n : ℕ} (p : Shows c mv m n) where
   unfolding topRate topOf
   top-shown = ap (λ (k : ℕ). greatest (exitRate c) k) (p .states) ∙ greatest-cong (exitRate c) (exitOf mv m) n exit-shown
 
-  pub moved-shown : (v : ℕ → ℕ) (s : ℕ) → s < n → moved c v s ≡ flow mv m v s + (topOf mv m n - exitOf mv m s) * v s
-  unfolding moved
-  moved-shown v s h =
-      let e : sumTo (λ g. away c s g * v g) (c .states) ≡ flow mv m v s =
+  pub flow-shown : (v : ℕ → ℕ) (s : ℕ) → s < n → sumTo (λ g. away c s g * v g) (c .states) ≡ flow mv m v s
+  flow-shown v s h =
       ap (λ (k : ℕ). sumTo (λ g. away c s g * v g) k) (p .states)
       ∙ sum-cong (λ g. away c s g * v g) (λ g. rateBetween mv m s g * v g) n (λ g l. ap (λ (x : ℕ). x * v g) (p .rates s g h l))
-      ∙ by-lines mv v s n m (p .targets) in
-      rw (e, top-shown, exit-shown s h) refl
+      ∙ by-lines mv v s n m (p .targets)
+
+  pub moved-shown : (v : ℕ → ℕ) (s : ℕ) → s < n → moved c v s ≡ flow mv m v s + (topOf mv m n - exitOf mv m s) * v s
+  unfolding moved
+  moved-shown v s h = rw (flow-shown v s h, top-shown, exit-shown s h) refl

@@ -1,5 +1,5 @@
--- Words that hold the moves of a sheet, one for each line in its order: they show the sheet's chain, and are what the engine asks of words.
--- Assumes nothing.
+-- Words that hold the moves of a sheet, one for each line in its order: without their rates to the own state they show the sheet's chain, and
+-- are what the engine asks of words. Assumes nothing.
 use mathlib.Core.Path.{_≡_, refl, sym, _∙_}
 use mathlib.Core.Bool.{Bool, true, false, cond, _&&_}
 use mathlib.Core.List.{List}
@@ -10,12 +10,13 @@ use lib.Dec.{eqb}
 use Rattle.csl.specs.Limits.{mostStates, mostMoves, mostRate}
 use Rattle.csl.specs.Moves.{Move, isRising, rateIn, ratesOut}
 use Rattle.csl.specs.Sheet.{Sheet}
-use Rattle.csl.specs.Chain.{chainOf}
+use Rattle.csl.specs.Chain.{chainOf, away}
 use Rattle.numbers.specs.Sum.{sum-cong}
-use Rattle.accepted.specs.Rates.{Within, away-by-lines}
+use Rattle.accepted.specs.Rates.{Within}
 use Rattle.accepted.specs.Sheet.{Sound}
 use Rattle.rate_matrix.specs.Packed.{packedMove, to-packed, from-packed, rate-packed}
 use Rattle.rate_matrix.specs.Words.{at, fromOf, toOf, rateOf, rateBetween, exitOf, Lines}
+use Rattle.rate_matrix.specs.Away.{ownOf, AwayWords, own-between, away-between, away-lines}
 use Rattle.rate_matrix.specs.Shown.{Shows}
 use Rattle.rate_matrix.specs.ByPlace.{moveAt, rate-by-place, out-by-place, within-place, rising-places}
 
@@ -64,16 +65,20 @@ module _ (mv : List ℕ) (ms : List Move) (n : ℕ) (small : n ≤ mostStates) (
         limit = λ s l. omega (arith, limit s, out-stored s);
       }
 
--- words that hold the moves of a sound sheet show its chain, in lines
-module _ (mv : List ℕ) (sheet : Sheet) (k : Sound sheet) (holds : Holds mv (sheet .moves)) where
-  pub shows-stored : Shows (chainOf sheet) mv (length (sheet .moves)) (sheet .states)
-  unfolding chainOf
-  shows-stored =
+-- words that hold the moves of a sound sheet are lines; without their rates to the own state they show its chain, whose rates to the own state
+-- are the ones that they had
+module _ (mv : List ℕ) (sheet : Sheet) (k : Sound sheet) (holds : Holds mv (sheet .moves)) (all : length mv ≡ length (sheet .moves)) where
+  pub sheet-lines : Lines mv (length mv) (sheet .states)
+  sheet-lines = rw all (lines-stored mv (sheet .moves) _ (k .few-states) (k .within) holds (k .few-moves) (k .rising) (k .slow))
+
+  pub owns-stored : (s : ℕ) → ownOf mv (length mv) s ≡ rateIn (sheet .moves) s s
+  owns-stored s = own-between mv (length mv) s ∙ rw all (sym (rates-stored mv (sheet .moves) _ (k .few-states) (k .within) holds s s))
+
+  pub shows-stored : {mv' : List ℕ} → AwayWords mv mv' → Shows (chainOf sheet) mv' (length mv') (sheet .states)
+  unfolding chainOf away
+  shows-stored w =
       record {
         states = refl;
-        targets = λ j l. rw (to-is mv (sheet .moves) _ (k .few-states) (k .within) holds j l) (within-place _ (sheet .moves) (k .within) j l .1);
-        rates = λ s g h l. away-by-lines sheet (k .within) (k .apart) s g ∙ rates-stored mv (sheet .moves) _ (k .few-states) (k .within) holds s g;
+        targets = away-lines w sheet-lines .targets;
+        rates = λ s g h l. rw (rates-stored mv (sheet .moves) _ (k .few-states) (k .within) holds s g, ← all) (sym (away-between w s g));
       }
-
-  pub sheet-lines : Lines mv (length (sheet .moves)) (sheet .states)
-  sheet-lines = lines-stored mv (sheet .moves) _ (k .few-states) (k .within) holds (k .few-moves) (k .rising) (k .slow)

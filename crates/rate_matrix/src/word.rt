@@ -2,7 +2,7 @@
 ghost use mathlib.Core.Path.{_≡_};
 ghost use Prim.Native.Nat.{_<_};
 ghost use Rattle.csl.specs.Limits.{mostStates};
-ghost use Rattle.rate_matrix.specs.Packed.{packed, wordFrom, wordTo, wordRate};
+ghost use Rattle.rate_matrix.specs.Packed.{packed, wordFrom, wordTo, wordRate, wordStates};
 
 // So many states a digit of a word can name.
 const STATES: u64 = limits::MOST_STATES as u64;
@@ -36,4 +36,11 @@ pub fn rate_of(word: u64) -> u64
     ensures { λ r. ⌜ r ≡ wordRate word ⌝ }
 {
     word / (STATES * STATES)
+}
+
+// The packed move without its rate.
+pub fn without_rate(word: u64) -> u64
+    ensures { λ r. ⌜ r ≡ wordStates word ⌝ }
+{
+    word % (STATES * STATES)
 }

@@ -11,7 +11,7 @@ use Rattle.csl.specs.Limits.{mostStates, mostMoves}
 use Rattle.csl.specs.Line.{lineFeed, laterLines}
 use Rattle.csl.specs.Labels.{labelsHead, labelsLayout, inTurn, statesOf, namesOf}
 use Rattle.csl.specs.Moves.{movesHead, movesLayout, movesOf, isRising}
-use Rattle.csl.specs.Refusal.{brokenLayout, wrongFirstLine, wrongStates, manyMoves, strangeState, ownState, notRising, wrongRate, sheetTests, firstOf}
+use Rattle.csl.specs.Refusal.{brokenLayout, wrongFirstLine, wrongStates, manyMoves, strangeState, notRising, wrongRate, sheetTests, firstOf}
 use Rattle.texts.specs.Span.{spanOf}
 use Rattle.moves.specs.Facts as m
 use Rattle.moves.specs.declared.facts.MovesFacts.{MovesFacts}
@@ -85,9 +85,6 @@ module _ {moves labels : Text} {a : MovesFacts} {b : LabelsFacts} (k : Facts mov
     strange-told : a .strange ≡ strangeState (statesOf labels) (movesOf moves)
     strange-told = rw moves-right
 
-    own-told : a .own ≡ ownState (movesOf moves)
-    own-told = rw moves-right
-
     rising-told : not (a .rising) ≡ notRising (movesOf moves)
     unfolding notRising
     rising-told = rw moves-right
@@ -123,7 +120,7 @@ module _ (a : MovesFacts) (b : LabelsFacts) where
         -- 5 and on
         pub firstFrom5 : (moves labels : Text) → Facts moves labels a b
             → afterLengths moves labels
-            ≡ cond (ltb mostMoves (a .count)) (some 5) (cond (a .strange) (some 6) (cond (a .own) (some 7) (cond (not (a .rising)) (some 8) (cond (wrongRate (movesOf moves)) (some 9) none))))
+            ≡ cond (ltb mostMoves (a .count)) (some 5) (cond (a .strange) (some 6) (cond (not (a .rising)) (some 8) (cond (wrongRate (movesOf moves)) (some 9) none)))
         unfolding sheetTests firstOf
         firstFrom5 moves labels k =
             rw (
@@ -132,7 +129,6 @@ module _ (a : MovesFacts) (b : LabelsFacts) where
               sym (states-told k h2) ∙ h4,
               sym (count-told k h2),
               sym (strange-told k h2),
-              sym (own-told k h2),
               sym (rising-told k h2),
             )
 
@@ -144,18 +140,14 @@ module _ (a : MovesFacts) (b : LabelsFacts) where
           at-6 h moves labels k = rw (firstFrom5 moves labels k, le-ltb mostMoves (a .count) h5, h)
 
           module _ (h6 : a .strange ≡ false) where
-            pub at-7 : a .own ≡ true → Answered (Refused 7)
-            at-7 h moves labels k = rw (firstFrom5 moves labels k, le-ltb mostMoves (a .count) h5, h6, h)
+            pub at-8 : not (a .rising) ≡ true → Answered (Refused 8)
+            at-8 h moves labels k = rw (firstFrom5 moves labels k, le-ltb mostMoves (a .count) h5, h6, h)
 
-            module _ (h7 : a .own ≡ false) where
-              pub at-8 : not (a .rising) ≡ true → Answered (Refused 8)
-              at-8 h moves labels k = rw (firstFrom5 moves labels k, le-ltb mostMoves (a .count) h5, h6, h7, h)
+            module _ (h8 : not (a .rising) ≡ false) where
+              pub at-9 : not (a .rates) ≡ true → Answered (Refused 9)
+              at-9 h moves labels k =
+                  rw (firstFrom5 moves labels k, le-ltb mostMoves (a .count) h5, h6, h8, sym (rates-told k h2 h8) ∙ h)
 
-              module _ (h8 : not (a .rising) ≡ false) where
-                pub at-9 : not (a .rates) ≡ true → Answered (Refused 9)
-                at-9 h moves labels k =
-                    rw (firstFrom5 moves labels k, le-ltb mostMoves (a .count) h5, h6, h7, h8, sym (rates-told k h2 h8) ∙ h)
-
-                pub at-end : not (a .rates) ≡ false → Answered Passed
-                at-end h moves labels k =
-                    rw (firstFrom5 moves labels k, le-ltb mostMoves (a .count) h5, h6, h7, h8, sym (rates-told k h2 h8) ∙ h)
+              pub at-end : not (a .rates) ≡ false → Answered Passed
+              at-end h moves labels k =
+                  rw (firstFrom5 moves labels k, le-ltb mostMoves (a .count) h5, h6, h8, sym (rates-told k h2 h8) ∙ h)

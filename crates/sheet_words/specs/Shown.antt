@@ -1,5 +1,5 @@
 -- What the words of a stored sheet say of its chain. Assumes nothing.
-use mathlib.Core.Path.{_≡_, refl, sym, _∙_}
+use mathlib.Core.Path.{_≡_, refl, ap, sym, _∙_}
 use mathlib.Core.Bool.{Bool, true, false, cond, not, _||_, false≢true, and-eq-true-iff}
 use mathlib.Core.List.{List, [], _∷_}
 use Prim.Native.Nat.{ℕ, zero, suc, _+_, _/_, _%_, _^_, _<_}
@@ -13,13 +13,19 @@ use Rattle.csl.specs.Labels.{noRepeat, namesOf, statesOf, placeOf, markAt}
 use Rattle.csl.specs.Moves.{movesOf}
 use Rattle.csl.specs.Sheet.{sheetOf}
 use Rattle.csl.specs.Chain.{chainOf}
+use Rattle.csl.specs.Lent.{column}
 use Rattle.csl.specs.Laws.Grammar.{same-true}
+use Rattle.accepted.specs.Rates.{next-exit-by-lines}
 use Rattle.accepted.specs.Sheet.{SheetPassed}
-use Rattle.numbers.specs.Filled.{at, table-at}
+use Rattle.numbers.specs.Filled.{at, table-at, column-length, column-at}
+use Rattle.moves.specs.Words.{moveWord}
 use Rattle.labels.specs.Words.{mark-bit}
+use Rattle.rate_matrix.specs.Packed.{wordAway}
+use Rattle.rate_matrix.specs.Away.{AwayWords}
 use Rattle.rate_matrix.specs.Shown.{Shows}
-use Rattle.rate_matrix.specs.Stored.{Holds, shows-stored}
+use Rattle.rate_matrix.specs.Stored.{shows-stored}
 use Rattle.vectors.specs.Places.{marksFrom}
+use Rattle.vectors.specs.Owns.{Owns}
 use Rattle.sheet_words.specs.Stored.{Stored}
 
 same-self : (t : Text) → same t t ≡ true
@@ -60,10 +66,34 @@ bit-one false = refl
 module _ {moves labels : Text} {words₀ words vectors₀ vectors : List ℕ} (p : SheetPassed moves labels)
     (k : Stored moves labels words₀ words vectors₀ vectors) where
   pub sheet-shown : Shows (chainOf (sheetOf moves labels)) (take (length (movesOf moves)) words) (length (take (length (movesOf moves)) words)) (statesOf labels)
-  sheet-shown = rw (k .taken) (shows-stored (take (length (movesOf moves)) words) (sheetOf moves labels) (p .sound) holds)
+  sheet-shown = shows-stored lines (sheetOf moves labels) (p .sound) (column-at (moveWord moves) m) many away
     where
-      holds : Holds (take (length (movesOf moves)) words) (movesOf moves)
-      holds j l = getD-take (length (movesOf moves)) words j 0 l ∙ table-at (k .lines) j l
+      m : ℕ
+      m = length (movesOf moves)
+
+      lines : List ℕ
+      lines = column (moveWord moves) m
+
+      many : length lines ≡ m
+      many = column-length (moveWord moves) m
+
+      away : AwayWords lines (take m words)
+      away =
+          record {
+            same = k .taken ∙ sym many;
+            word = λ j l.
+                let h : j < m = omega (arith, many) in
+                getD-take m words j 0 h ∙ table-at (k .lines) j h ∙ ap wordAway (sym (column-at (moveWord moves) m j h));
+          }
+
+  -- the rates to the own state, in their place
+  pub sheet-owns : Owns (chainOf (sheetOf moves labels)) vectors (statesOf labels)
+  unfolding chainOf
+  sheet-owns =
+      record {
+        owns = λ s l. k .owns s l;
+        slow = λ s l. omega (arith, next-exit-by-lines (sheetOf moves labels) (p .sound .within) s, p .sound .slow s);
+      }
 
   -- the marks of the labels: in the word of each state, the bit of a name's place
   pub marks-shown : (place : ℕ) → place < length (namesOf labels) → (s : ℕ) → s < statesOf labels

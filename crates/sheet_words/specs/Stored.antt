@@ -7,14 +7,15 @@ use lib.ListN.{length, take}
 use Rattle.csl.specs.Text.{Text}
 use Rattle.csl.specs.Limits.{mostNames, mostStates}
 use Rattle.csl.specs.Labels.{labelsLayout, namesOf, statesOf}
-use Rattle.csl.specs.Moves.{movesOf}
+use Rattle.csl.specs.Moves.{movesOf, rateIn}
 use Rattle.csl.specs.Sheet.{sheetOf}
 use Rattle.csl.specs.Chain.{chainOf, topRate}
 use Rattle.accepted.specs.Sheet.{SheetPassed}
 use Rattle.numbers.specs.Filled.{at, Table}
 use Rattle.moves.specs.Words.{moveWord}
 use Rattle.labels.specs.Words.{stateWord}
-use Rattle.vectors.specs.Places.{valuesFrom, marksFrom, vectorLength}
+use Rattle.rate_matrix.specs.Packed.{wordAway}
+use Rattle.vectors.specs.Places.{valuesFrom, marksFrom, vectorLength, ownAt}
 use Rattle.vectors.specs.Prepared.{Prepared}
 use Rattle.refusals.specs.Sheet.{dimensionsOf}
 use Rattle.refusals.specs.declared.sheet_tests.Dimensions.{Dimensions}
@@ -35,12 +36,14 @@ pub record StoreAsked (moves labels : Text) (d : Dimensions) (words vectors : Li
   pub room : length (movesOf moves) ≤ length words
   pub long : vectorLength (statesOf labels) ≤ length vectors
 
--- The first move words are the sheet's moves. The vector words are prepared for them at the sheet's uniformisation rate, with 0 in the
--- places of the ends too, and with the marks of the labels in their place. All other words are as they were.
+-- The first move words are the sheet's moves, those to the own state without their rates. The vector words are prepared for them at the
+-- sheet's uniformisation rate, with the rates to the own state and the marks of the labels in their places, and with 0 in the places of the
+-- ends too. All other words are as they were.
 pub record Stored (moves labels : Text) (words₀ words vectors₀ vectors : List ℕ) : Type 0 where
-  pub lines : Table (moveWord moves) words₀ words (length (movesOf moves))
+  pub lines : Table (λ j. wordAway (moveWord moves j)) words₀ words (length (movesOf moves))
   pub taken : length (take (length (movesOf moves)) words) ≡ length (movesOf moves)
   pub prepared : Prepared (take (length (movesOf moves)) words) vectors (statesOf labels) (topRate (chainOf (sheetOf moves labels)))
+  pub owns : (s : ℕ) → s < statesOf labels → ownAt vectors (statesOf labels) s ≡ rateIn (movesOf moves) s s
   pub ends : (k : ℕ) → k < valuesFrom (statesOf labels) → at vectors k ≡ 0
   pub marks : (s : ℕ) → s < statesOf labels → at vectors (marksFrom (statesOf labels) + s) ≡ stateWord labels s
   pub same : length vectors ≡ length vectors₀

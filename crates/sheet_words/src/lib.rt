@@ -1,5 +1,5 @@
-// A sheet that passed its tests, in the lent words: its moves in the move words; in the vector words the marks of its labels and what is
-// prepared of its moves.
+// A sheet that passed its tests, in the lent words: its moves in the move words, those to the own state without their rates; in the vector
+// words the marks of its labels and what is prepared of its moves, the rates to the own state among it.
 use refusals::Dimensions;
 ghost use Rattle.labels.specs.Words.{stateWord};
 ghost use Rattle.numbers.specs.Filled.{Filled};
@@ -24,6 +24,6 @@ pub fn store(moves: &[u8], labels: &[u8], sheet: Dimensions, words: &mut [u64], 
     let n = sheet.states;
     let m = sheet.moves;
     moves::store(moves, words);
-    vectors::prepare(&words[..m], vectors, n);
+    vectors::prepare(&mut words[..m], vectors, n);
     store_marks(labels, sheet.names, vectors, n);
 }

@@ -9,13 +9,14 @@ use lib.Dec.{leb}
 use borrow.Author.Tests.{leb-true, le-ltb}
 use Rattle.csl.specs.Text.{any}
 use Rattle.csl.specs.Limits.{billion, mostNodes, mostRateHundredths}
-use Rattle.csl.specs.Formula.{Formula, always, label, negated, both, chance, Path, until, pathOf, Comparison, nodes, phasesPass, pathsPass}
+use Rattle.csl.specs.Formula.{Formula, always, label, negated, both, chance, Path, until, nextMove, pathOf, Comparison, nodes, phasesPass, pathsPass}
 use Rattle.csl.specs.Chain.{Chain, topRate, load, depth}
 use Rattle.csl.specs.Path.{meaning}
 use Rattle.csl.specs.Backing.{PathBacked, ChanceKeeps}
 use Rattle.csl.specs.Verdicts.{Verdict, No, Yes, Undecided}
 use Rattle.csl.specs.Report.{Reported, PlainReport, depthOf, lowerOf, upperOf}
 use Rattle.csl.specs.Lent.{Buffers, rooms, isShort}
+use Rattle.csl.specs.Laws.Backing.{kept-operands}
 use Rattle.csl.specs.Refusal.{Job, jobStates, jobMoves, jobChain, jobFormula, inLoad, shortBuffer}
 use Rattle.accepted.specs.Job.{Passed}
 
@@ -44,6 +45,7 @@ depth-low c t h = omega arith
 
 path-within : (c : Chain) (w : Path) → phasesPass (λ t. leb (topRate c * t) mostRateHundredths) (pathOf w) ≡ true → meaning c (pathOf w) .depth ≤ 168
 path-within c (until t a b) h = depth-low c t (leb-true (topRate c * t) mostRateHundredths h)
+path-within c (nextMove a) h = omega arith
 
 depth-within : (c : Chain) (f : Formula) → pathsPass (inLoad (topRate c)) f ≡ true → depthOf c f ≤ 168
 unfolding depthOf pathsPass
@@ -71,7 +73,9 @@ module _ (c : Chain) (lower upper : ℕ → ℕ) (v : ℕ → Verdict) (s : ℕ)
   plain-in-range f k = rw (k .lowers s b, k .uppers s b) (of-verdict (v s))
 
   path-in-range : (w : Path) (r : Comparison) (p : ℕ) → PathBacked c w (ChanceKeeps c r p lower upper v) → InRange (lower s) (upper s)
-  path-in-range (until t a e) r p k = record { low = k .keeps .ends s b .lower-range; high = k .keeps .ends s b .upper-range }
+  path-in-range w r p k =
+      let h = kept-operands c w (ChanceKeeps c r p lower upper v) k in
+      record { low = h .ends s b .lower-range; high = h .ends s b .upper-range }
 
   pub ends-in-range : (f : Formula) → Reported c f lower upper v → InRange (lower s) (upper s)
   ends-in-range always k = plain-in-range always k

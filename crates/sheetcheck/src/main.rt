@@ -38,14 +38,15 @@ fn explain(number: u64) {
         4 => say(b"labels.txt has no state, over 512 states, or state numbers out of turn."),
         5 => say(b"moves.txt has over 4,096 moves."),
         6 => say(b"a move names a state that labels.txt lacks."),
-        7 => say(b"a move goes to its own state."),
         8 => say(b"the moves do not rise by their two states, or a pair stands twice."),
         9 => say(b"a rate is 0, or the rates out of a state are over 64,000,000."),
         10 => say(b"formula.txt breaks the grammar."),
         11 => say(b"the formula has over 64 nodes or is over 16 deep."),
         12 => say(b"the formula has a label name that the first line of labels.txt lacks."),
         13 => say(b"a threshold is over 1,000,000,000 or hours are over 8,760."),
-        14 => say(b"the greatest exit rate times an until's hours is over 64,000,000."),
+        14 => say(
+            b"the greatest exit rate (to other states) times an until's hours is over 64,000,000.",
+        ),
         15 => say(b"a lent buffer is too short."),
         _ => {}
     }

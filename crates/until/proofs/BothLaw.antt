@@ -13,7 +13,7 @@ use Rattle.numbers.specs.Sum.{sum-cong}
 use Rattle.bounds.specs.Unit.{one, scale, grain, part}
 use Rattle.bounds.specs.StepValues.{pointed}
 use Rattle.bounds.specs.Reading.{bit-most}
-use Rattle.vectors.specs.Places.{at, totalAt, numberAt, sumAt, weightAt, totalIn}
+use Rattle.vectors.specs.Places.{at, weightsFrom, totalAt, numberAt, sumAt, weightAt, totalIn}
 use Rattle.vectors.specs.Prepared.{Rates, rates-kept, rates-slow}
 use Rattle.phase.specs.Value.{startOf, heldOf, valueOf}
 use Rattle.phase.specs.Bound.{run-most}
@@ -40,7 +40,7 @@ module _ {mv l first second : List ℕ} {n q last : ℕ} (p : BothAsked mv l fir
     rates-like = rates-kept (p .read .rates) (c .same) (λ k a b. c .after k a (omega arith))
 
     weight-like : (k : ℕ) → k ≤ last → weightAt x n k ≡ weightAt l n k
-    weight-like k b = c .after (8 * n + k) (omega arith) (omega (arith, p .read .room))
+    weight-like k b = c .after (weightsFrom n + k) (omega arith) (omega (arith, p .read .room))
 
     total-like : totalIn x n ≡ totalIn l n
     total-like = c .after (totalAt n) (omega arith) (omega arith)

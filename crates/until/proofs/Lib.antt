@@ -4,7 +4,6 @@ pub mod LayLaw
 pub mod RunLaw
 pub mod DecidedLaw
 pub mod ReadLaw
-pub mod EndsLaw
 pub mod PointLaw
 pub mod StillLaw
 pub mod BothLaw

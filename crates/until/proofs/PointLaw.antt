@@ -14,7 +14,7 @@ use Rattle.bounds.specs.StepValues.{pointed}
 use Rattle.vectors.specs.Places.{at}
 use Rattle.until.specs.Reading.{verdicts}
 use Rattle.until.specs.Asked.{PointAsked}
-use Rattle.until.proofs.EndsLaw as ends
+use Rattle.vectors.specs.Storing as ends
 
 abbrev pub Inv : (l₀ l first second : List ℕ) (n s : ℕ) → Type 0
 Inv l₀ l first second n s =

@@ -50,7 +50,7 @@ module _ {mv l first second : List ℕ} {n q last : ℕ} (p : ReadAsked mv l fir
     start-most s h = rw (i .values s h) (omega (arith, bit-most (readAs b (verdicts second s))))
 
     weight-laid : (k : ℕ) → weightAt x n k ≡ weightAt l n k
-    weight-laid k = i .after (8 * n + k) (omega arith)
+    weight-laid k = i .after (weightsFrom n + k) (omega arith)
 
     pub may-begin : BeginAsked x n
     may-begin =
@@ -75,7 +75,7 @@ module _ {mv l first second : List ℕ} {n q last : ℕ} (p : ReadAsked mv l fir
       stays-is s h e = stay-is s h ∙ i .stays s h ∙ rw (sym (held-is s h) ∙ e, p .rates .exits s h) refl
 
       weight-is : (k : ℕ) → k ≤ last → weightAt y n k ≡ weightAt l n k
-      weight-is k h = kept (8 * n + k) (omega arith) (omega (arith, p .room))
+      weight-is k h = kept (weightsFrom n + k) (omega arith) (omega (arith, p .room))
 
       pub may-run : RunAsked mv y n q last
       may-run =

@@ -9,7 +9,7 @@ use lib.ListN.{length}
 use Rattle.csl.specs.Chain.{sumTo}
 use Rattle.numbers.specs.Sum.{sum-next, sum-most}
 use Rattle.bounds.specs.Unit.{one, part, mostPart, part-most}
-use Rattle.vectors.specs.Places.{at, numberAt, valueAt, sumAt, stayAt, heldAt, weightAt, numberIn}
+use Rattle.vectors.specs.Places.{at, weightsFrom, numberAt, valueAt, sumAt, stayAt, heldAt, weightAt, numberIn}
 use Rattle.vectors.specs.Prepared.{rates-kept, rates-slow}
 use Rattle.phase.specs.Value.{runOf}
 use Rattle.phase.specs.Bound.{run-most, next-cong}
@@ -52,7 +52,7 @@ module _ {mv l₀ l : List ℕ} {n q last a : ℕ} (v : Inv mv l₀ l n q last a
   stay-is s b = v .stands .after (5 * n + s) (omega arith) (omega arith)
 
   weight-is : (i : ℕ) → i ≤ last → weightAt l n i ≡ weightAt l₀ n i
-  weight-is i b = v .stands .after (8 * n + i) (omega arith) (omega (arith, v .asked .room))
+  weight-is i b = v .stands .after (weightsFrom n + i) (omega arith) (omega (arith, v .asked .room))
 
   -- the values are at most one
   most : (i s : ℕ) → s < n → runAt mv l₀ n q i s ≤ one

@@ -7,7 +7,7 @@ use Rattle.verdicts.specs.Paper.{interval}
 use Rattle.verdicts.specs.Byte.{verdictAt}
 use Rattle.verdicts.specs.declared.interval.Interval.{Interval}
 use Rattle.until.specs.Reading.{verdicts}
-use Rattle.until.proofs.EndsLaw as ends
+use Rattle.vectors.specs.Storing as ends
 
 abbrev pub Inv : (l₀ l second : List ℕ) (n s : ℕ) → Type 0
 Inv l₀ l second n s = ends.Inv (λ g. lowerOf (verdicts second g)) (λ g. upperOf (verdicts second g)) l₀ l n s

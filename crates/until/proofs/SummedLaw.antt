@@ -14,7 +14,7 @@ use Rattle.bounds.specs.Last.{lastFrom, last-same}
 use Rattle.bounds.specs.Ends.{total, negligible, lastStep, last-step-within, lowerEnd, gathered-most, total-most, total-peak}
 use Rattle.bounds.specs.Upper.{leftEnd}
 use Rattle.weights.specs.Asked.{mostSteps}
-use Rattle.vectors.specs.Places.{at, weightAt, totalIn}
+use Rattle.vectors.specs.Places.{at, weightsFrom, weightAt, totalIn}
 use Rattle.vectors.specs.Prepared.{rates-kept, WorkAsked, Cleared}
 use Rattle.phase.specs.Value.{valueOf}
 use Rattle.phase.specs.Load.{Weighed, LightAsked}
@@ -94,22 +94,22 @@ module _ {mv l first second : List ℕ} {n q a depth : ℕ} (p : SummedAsked mv 
           kept : (k : ℕ) → 2 * n ≤ k → at y k ≡ at l k
           kept k h = columns (ltb k (6 * n)) refl
             where
-              marks : (t : Bool) → ltb k (9 * n + 512) ≡ t → 8 * n ≤ k → at y k ≡ at l k
+              marks : (t : Bool) → ltb k (9 * n + 512) ≡ t → weightsFrom n ≤ k → at y k ≡ at l k
               marks true e b =
                   c .clear .weights k b (ltb-true k (9 * n + 512) e) ∙ sym (p .prepared .clear .weights k b (ltb-true k (9 * n + 512) e))
               marks false e b =
                   let i : 9 * n + 512 ≤ k = ltb-false k (9 * n + 512) e in
                   c .beyond k i ∙ f .after k (omega arith) (omega arith) ∙ u .after k (omega (arith, p .weigh .load .room, p .weigh .deep)) (omega arith)
 
-              rates : (t : Bool) → ltb k (8 * n) ≡ t → 6 * n ≤ k → at y k ≡ at l k
+              rates : (t : Bool) → ltb k (weightsFrom n) ≡ t → 6 * n ≤ k → at y k ≡ at l k
               rates true e b =
-                  let i : k < 8 * n = ltb-true k (8 * n) e in
+                  let i : k < weightsFrom n = ltb-true k (weightsFrom n) e in
                   c .rates k b i ∙ f .after k b (omega arith) ∙ u .before k i
-              rates false e b = marks (ltb k (9 * n + 512)) refl (ltb-false k (8 * n) e)
+              rates false e b = marks (ltb k (9 * n + 512)) refl (ltb-false k (weightsFrom n) e)
 
               columns : (t : Bool) → ltb k (6 * n) ≡ t → at y k ≡ at l k
               columns true e = c .clear .columns k h (ltb-true k (6 * n) e) ∙ sym (p .prepared .clear .columns k h (ltb-true k (6 * n) e))
-              columns false e = rates (ltb k (8 * n)) refl (ltb-false k (6 * n) e)
+              columns false e = rates (ltb k (weightsFrom n)) refl (ltb-false k (6 * n) e)
 
           pub is-summed : Summed mv first second n q a depth l y
           unfolding lowerEnd leftEnd

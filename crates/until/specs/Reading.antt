@@ -6,21 +6,12 @@ use Prim.Native.Nat.{ℕ}
 use Rattle.csl.specs.Chain.{Chain}
 use Rattle.csl.specs.Phase.{Phase}
 use Rattle.csl.specs.Until.{untilPhase}
-use Rattle.csl.specs.Verdicts.{Verdict, asNo, asYes}
-use Rattle.bounds.specs.StepValues.{verdictAt, Rounds}
-use Rattle.rate_matrix.specs.Words.{at, topOf}
+pub use Rattle.verdicts.specs.Byte.{verdicts, readAs}
+use Rattle.bounds.specs.StepValues.{Rounds}
+use Rattle.rate_matrix.specs.Words.{topOf}
 use Rattle.rate_matrix.specs.Shown.{Shows}
 use Rattle.phase.specs.Value.{runOf, startOf, valueOf}
 use Rattle.phase.specs.Rounded.{StartsHeld, run-next}
-
--- the verdicts of a row of bytes
-abbrev pub verdicts : List ℕ → ℕ → Verdict
-verdicts row s = verdictAt (at row s)
-
--- a verdict read with undecided as yes, or as no
-abbrev pub readAs : Bool → Verdict → Bool
-readAs true v = asYes v
-readAs false v = asNo v
 
 -- until with undecided operand states read so; with them read as no, and as yes
 abbrev pub readPhase : Bool → List ℕ → List ℕ → Phase

@@ -4,18 +4,9 @@ ghost use mathlib.Core.Bool.{true, false, not, _||_};
 ghost use Prim.Native.Nat.{_*_};
 ghost use Rattle.csl.specs.Phase.{bit};
 ghost use Rattle.bounds.specs.Unit.{one};
-ghost use Rattle.bounds.specs.StepValues as values;
 ghost use Rattle.phase.specs.Value.{stayOf};
-ghost use Rattle.until.specs.Reading.{readAs};
 ghost use Rattle.until.specs.Run.{RunAsked, Ran};
 ghost use Rattle.until.specs.Asked.{StaysAsked, LayAsked, Laid, DecidedAsked, bothDecided, ReadAsked, Read, HighAsked};
-
-// Whether a verdict byte says that an operand holds, undecided read as yes or as no.
-fn holds(byte: u8, as_yes: bool) -> bool
-    ensures { λ r. ⌜ r ≡ readAs as_yes (values.verdictAt byte) ⌝ }
-{
-    if as_yes { byte != 0 } else { byte == 1 }
-}
 
 // Whether an until holds a state's value, by whether its operands hold there: at 1 where the second does, at 0 where neither does.
 fn is_held(first: bool, second: bool) -> bool
@@ -46,8 +37,8 @@ fn lay(words: &mut [u64], first: &[u8], second: &[u8], n: usize, q: u64, as_yes:
 {
     let mut s: usize = 0;
     while s < n {
-        let by_first = holds(first[s], as_yes);
-        let by_second = holds(second[s], as_yes);
+        let by_first = verdicts::holds(first[s], as_yes);
+        let by_second = verdicts::holds(second[s], as_yes);
         words[vectors::NEXT * n + s] = first_value(by_second);
         words[vectors::STAYS * n + s] = stays(
             is_held(by_first, by_second),

@@ -28,16 +28,19 @@ sumsFrom n = 4 * n
 abbrev pub staysFrom : ℕ → ℕ
 staysFrom n = 5 * n
 
--- the exit rates, and where the rows of move words end
+-- the exit rates, where the rows of move words end, and the rates to the own state
 abbrev pub exitsFrom : ℕ → ℕ
 exitsFrom n = 6 * n
 
 abbrev pub endsFrom : ℕ → ℕ
 endsFrom n = 7 * n
 
+abbrev pub ownsFrom : ℕ → ℕ
+ownsFrom n = 8 * n
+
 -- the weights of the steps, their total, and the number of the step
 abbrev pub weightsFrom : ℕ → ℕ
-weightsFrom n = 8 * n
+weightsFrom n = 9 * n
 
 abbrev pub totalAt : ℕ → ℕ
 totalAt n = 9 * n + 510
@@ -71,6 +74,9 @@ exitAt l n s = at l (exitsFrom n + s)
 abbrev pub endAt : List ℕ → (n : ℕ) → ℕ → ℕ
 endAt l n s = at l (endsFrom n + s)
 
+abbrev pub ownAt : List ℕ → (n : ℕ) → ℕ → ℕ
+ownAt l n s = at l (ownsFrom n + s)
+
 abbrev pub weightAt : List ℕ → (n : ℕ) → ℕ → ℕ
 weightAt l n k = at l (weightsFrom n + k)
 
@@ -99,4 +105,5 @@ pub record Placed (n : ℕ) (r : Places) : Type 0 where
   pub stays : r .stays ≡ staysFrom n
   pub exits : r .exits ≡ exitsFrom n
   pub ends : r .ends ≡ endsFrom n
+  pub owns : r .owns ≡ ownsFrom n
   pub weights : r .weights ≡ weightsFrom n

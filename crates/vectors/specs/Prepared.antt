@@ -7,7 +7,8 @@ use lib.ListN.{length}
 use Rattle.csl.specs.Limits.{mostStates, mostRate}
 use Rattle.numbers.specs.Sum.{greatest-le, greatest-most}
 use Rattle.rate_matrix.specs.Words.{at, exitOf, topOf, rowOf, Lines}
-use Rattle.vectors.specs.Places.{valuesFrom, exitsFrom, weightsFrom, marksFrom, vectorLength, exitAt, endAt}
+use Rattle.rate_matrix.specs.Away.{ownOf, AwayWords}
+use Rattle.vectors.specs.Places.{valuesFrom, exitsFrom, weightsFrom, marksFrom, vectorLength, exitAt, endAt, ownAt}
 
 -- The exit rates and the row ends of the move words mv stand in their places, for n states, and q is the greatest exit rate.
 pub record Rates (mv l : List ℕ) (n q : ℕ) : Type 0 where
@@ -27,7 +28,7 @@ pub record Prepared (mv l : List ℕ) (n q : ℕ) : Type 0 where
   pub rates : Rates mv l n q
   pub clear : Clear l n
 
--- words as they were from the exit rates to the row ends keep them; as they were from the values to the marks, they stay prepared
+-- words as they were from the exit rates to the weights keep them; as they were from the values to the marks, they stay prepared
 pub rates-kept : {mv l l' : List ℕ} {n q : ℕ} → Rates mv l n q → length l' ≡ length l
     → ((k : ℕ) → exitsFrom n ≤ k → k < weightsFrom n → at l' k ≡ at l k) → Rates mv l' n q
 rates-kept p e h =
@@ -65,9 +66,12 @@ pub record PrepareAsked (mv l : List ℕ) (n : ℕ) : Type 0 where
   pub lines : Lines mv (length mv) n
   pub long : vectorLength n ≤ length l
 
--- the words are prepared, with 0 in the places of the ends too, and all from the marks on is as it was
-pub record Laid (mv : List ℕ) (n : ℕ) (old new : List ℕ) : Type 0 where
-  pub prepared : Prepared mv new n (topOf mv (length mv) n)
+-- the move words mv have become mv', which lack the rates to the own state; the words are prepared for mv', with these rates in their place
+-- and 0 in the places of the ends too, and all from the marks on is as it was
+pub record Laid (mv mv' : List ℕ) (n : ℕ) (old new : List ℕ) : Type 0 where
+  pub away : AwayWords mv mv'
+  pub prepared : Prepared mv' new n (topOf mv' (length mv') n)
+  pub owns : (s : ℕ) → s < n → ownAt new n s ≡ ownOf mv (length mv) s
   pub ends : (k : ℕ) → k < valuesFrom n → at new k ≡ 0
   pub same : length new ≡ length old
   pub beyond : (k : ℕ) → marksFrom n ≤ k → at new k ≡ at old k

@@ -1,8 +1,8 @@
 // The lent vector words: where each thing stands in them, and how they are prepared for the steps of a phase.
 //
 // With n states the words are columns of n: the lower ends and the upper ones, the values, the values one step on, the sums, what stays put,
-// the exit rates, the row ends; then the weights, with the total of the weights and the number of the step behind them, and the labels' marks
-// last. specs/Places.antt has each place by name; a column's constant times n is where it begins.
+// the exit rates, the row ends, the rates to the own state; then the weights, with the total of the weights and the number of the step behind
+// them, and the labels' marks last. specs/Places.antt has each place by name; a column's constant times n is where it begins.
 ghost use mathlib.Core.Path.{_≡_};
 ghost use Prim.Native.Nat.{_≤_};
 ghost use lib.ListN.{length};
@@ -23,7 +23,9 @@ pub const EXITS: usize = 6;
 
 pub const ENDS: usize = 7;
 
-pub const WEIGHTS: usize = 8;
+pub const OWNS: usize = 8;
+
+pub const WEIGHTS: usize = 9;
 
 // The marks end the words.
 const MARKS: usize = limits::VECTOR_PLACES - 1;
@@ -36,6 +38,7 @@ struct Places {
     stays: usize,
     exits: usize,
     ends: usize,
+    owns: usize,
     weights: usize,
 }
 
@@ -51,6 +54,7 @@ fn all_places(n: usize) -> Places
         stays: STAYS * n,
         exits: EXITS * n,
         ends: ENDS * n,
+        owns: OWNS * n,
         weights: WEIGHTS * n,
     }
 }
@@ -87,10 +91,11 @@ pub fn length(n: usize) -> usize
     limits::VECTOR_PLACES * n + limits::VECTOR_SPARE
 }
 
-// The words before the marks, prepared: the exit rates and the row ends of the move words in their places, and 0 in all others.
-pub fn prepare(moves: &[u64], words: &mut [u64], n: usize)
+// The words before the marks, prepared: the exit rates and the row ends of the move words in their places, then the rates to the own state,
+// which the move words give up; and 0 in all others.
+pub fn prepare(moves: &mut [u64], words: &mut [u64], n: usize)
     requires { ⌜ PrepareAsked (now moves) (now words) n ⌝ }
-    ensures { λ _. ⌜ Laid (now (moves .entry)) n (now (words .entry)) (now (words .exit)) ⌝ }
+    ensures { λ _. ⌜ Laid (now (moves .entry)) (now (moves .exit)) n (now (words .entry)) (now (words .exit)) ⌝ }
 {
     zeros::clear_from(words, 0, marks(n));
     rate_matrix::prepare(moves, words, EXITS * n, n);

@@ -8,3 +8,4 @@ pub use answer::Answer;
 pub use comparison::Comparison;
 pub use interval::Interval;
 pub use verdict::Verdict;
+pub use verdict::holds;

@@ -3,7 +3,7 @@ ghost use mathlib.Core.Path.{_≡_};
 ghost use Rattle.csl.specs.Verdicts.{negation, conjunction};
 ghost use Rattle.csl.specs.Lent.{verdictByte};
 ghost use Rattle.verdicts.specs.Paper.{verdictOf};
-ghost use Rattle.verdicts.specs.Byte.{verdictAt};
+ghost use Rattle.verdicts.specs.Byte.{verdictAt, readAs};
 
 // Yes, no or undecided.
 pub enum Verdict {
@@ -62,4 +62,11 @@ impl Verdict {
             Verdict::Undecided
         }
     }
+}
+
+// Whether a verdict byte says that an operand holds, undecided read as yes or as no.
+pub fn holds(byte: u8, as_yes: bool) -> bool
+    ensures { λ r. ⌜ r ≡ readAs as_yes (verdictAt byte) ⌝ }
+{
+    if as_yes { byte != 0 } else { byte == 1 }
 }

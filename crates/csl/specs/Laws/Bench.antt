@@ -39,7 +39,7 @@ as-yes-end true = refl
 as-yes-end false = refl
 
 -- with load 0 the ends of an until over labels are 0 or 1, as the second is marked
-still-row : (c : Chain) (r : Comparison) (p t : ℕ) (x y : Text) (lower upper : ℕ → ℕ) (v : ℕ → Verdict) → topRate c * t ≡ 0
+pub still-row : (c : Chain) (r : Comparison) (p t : ℕ) (x y : Text) (lower upper : ℕ → ℕ) (v : ℕ → Verdict) → topRate c * t ≡ 0
     → Reported c (chance r p (until t (label x) (label y))) lower upper v → (s : ℕ) → s < c .states
     → (b : Bool) → c .mark y s ≡ b → Row lower upper v s (endOf b) (endOf b) (judged r p (endOf b) (endOf b))
 still-row c r p t x y lower upper v z k s l b e =
@@ -66,7 +66,7 @@ and-not-row c x y lower upper v k s l a b h j w i =
     record { lower-is = k .lowers s l ∙ rw e; upper-is = k .uppers s l ∙ rw e; verdict-is = e }
 
 -- a listing of two rows
-two-rows : (lower upper : ℕ → ℕ) (v : ℕ → Verdict) (d a b : ℕ) (x : Verdict) (a' b' : ℕ) (x' : Verdict)
+pub two-rows : (lower upper : ℕ → ℕ) (v : ℕ → Verdict) (d a b : ℕ) (x : Verdict) (a' b' : ℕ) (x' : Verdict)
     → Row lower upper v 0 a b x → Row lower upper v 1 a' b' x'
     → reportText 2 lower upper d v ≡ bytes "state,lower,upper,depth,verdict\n" ++ (rowText 0 a b d x ++ rowText 1 a' b' d x')
 unfolding reportText rowsText

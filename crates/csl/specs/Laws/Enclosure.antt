@@ -2,31 +2,36 @@
 use mathlib.Core.Bool.{Bool}
 use Prim.Native.Nat.{ℕ, _≤_, _<_}
 use native.Mathlib.Omega.{arith}
-use Rattle.csl.specs.Formula.{PathOf, untilOf, mapped}
+use Rattle.csl.specs.Formula.{PathOf, untilOf, nextOf, mapped}
 use Rattle.csl.specs.Fraction.{Below, billionths}
 use Rattle.csl.specs.Chain.{Chain, depth}
-use Rattle.csl.specs.Limit.{Value, limit, Each}
-use Rattle.csl.specs.Verdicts.{Verdict, least}
+use Rattle.csl.specs.Limit.{Value, exact, limit, Each}
+use Rattle.csl.specs.Verdicts.{Verdict, least, most}
 use Rattle.csl.specs.Until.{untilQuotient, lowQuotient, highQuotient}
-use Rattle.csl.specs.Path.{valueAt, lowValue, highValue, Reads, reads-until}
+use Rattle.csl.specs.Next.{nextFraction}
+use Rattle.csl.specs.Path.{valueAt, lowValue, highValue, Reads, reads-until, reads-next}
 use Rattle.csl.specs.Ends.{EndsAt}
 use Rattle.csl.specs.Laws.Fraction.{below-trans}
-use Rattle.csl.specs.Laws.Value.{Fractions, Rises, limit-rises, each-over, each-under, reads-least}
+use Rattle.csl.specs.Laws.Value.{Fractions, Rises, exact-rises, limit-rises, each-over, each-under, reads-least}
 use Rattle.csl.specs.Laws.Quotient.{until-is, low-under, high-over}
+use Rattle.csl.specs.Laws.Next.{next-is, next-low, next-high}
 
 -- of each kind of path: its quotients are fractions, and a reading's lie over those of the least reading and under those of the greatest
 pub value-is : (c : Chain) (o : PathOf (ℕ → Bool)) (s : ℕ) → Fractions (valueAt c o s)
 value-is c (untilOf t x y) s = until-is c t x y s
+value-is c (nextOf x) s = next-is c x s
 
 pub low-rises : (c : Chain) (o : PathOf (ℕ → Verdict)) (x : PathOf (ℕ → Bool)) → Reads (c .states) o x → (s : ℕ) → s < c .states
     → Rises (lowValue c o s) (valueAt c x s)
 low-rises c _ _ (reads-until t v w x y h k) s l =
     limit-rises (depth c t) (lowQuotient c t v w s) (untilQuotient c t x y s) (λ n. low-under c t v w x y h k s n l)
+low-rises c _ _ (reads-next v x h) s l = exact-rises (nextFraction c (least v) s) (nextFraction c x s) (next-low c v x h s)
 
 pub high-rises : (c : Chain) (o : PathOf (ℕ → Verdict)) (x : PathOf (ℕ → Bool)) → Reads (c .states) o x → (s : ℕ) → s < c .states
     → Rises (valueAt c x s) (highValue c o s)
 high-rises c _ _ (reads-until t v w x y h k) s l =
     limit-rises (depth c t) (untilQuotient c t x y s) (highQuotient c t v w s) (λ n. high-over c t v w x y h k s n l)
+high-rises c _ _ (reads-next v x h) s l = exact-rises (nextFraction c x s) (nextFraction c (most v) s) (next-high c v x h s)
 
 pub record Encloses (c : Chain) (lower upper : ℕ) (x : PathOf (ℕ → Bool)) (s : ℕ) : Type 0 where
   pub below : Each (λ y. Below (billionths lower) y) (valueAt c x s)
@@ -43,6 +48,8 @@ encloses c o x s lower upper l e h =
 -- the lower end is not above the upper one
 common : (x : Value) → Fractions x → (lower upper : ℕ) → Each (λ y. Below (billionths lower) y) x → Each (λ y. Below y (billionths upper)) x
     → lower ≤ upper
+common (exact x) is lower upper h k =
+    let z : Below (billionths lower) (billionths upper) = below-trans (billionths lower) x (billionths upper) is h k in omega arith
 common (limit d x) is lower upper h k =
     let z : Below (billionths lower) (billionths upper)
     = below-trans (billionths lower) (x d) (billionths upper) (is d) (h d (omega arith)) (k d (omega arith)) in

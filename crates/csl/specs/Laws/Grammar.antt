@@ -13,8 +13,8 @@ use borrow.Author.Tests.{eqb-true}
 use Rattle.csl.specs.Text.{Text, bytes, same}
 use Rattle.csl.specs.Labels.{isWord}
 use Rattle.csl.specs.Hours.{hundredthsOf}
-use Rattle.csl.specs.Formula.{Formula, always, label, negated, both, chance, until, Comparison}
-use Rattle.csl.specs.Grammar.{Found, nothing, found, Reader, andThen, comparisonOf, numberOf, onToken, onWord, pair, path, Head, truth, name, bang, ampersand, chances, other, headOf, state, readState, whole, Spells, spells-truth, spells-name, spells-not, spells-both, spells-until}
+use Rattle.csl.specs.Formula.{Formula, always, label, negated, both, chance, until, nextMove, Comparison}
+use Rattle.csl.specs.Grammar.{Found, nothing, found, Reader, andThen, comparisonOf, numberOf, onToken, single, pair, PathHead, untils, nexts, noPath, pathHeadOf, pathBehind, path, Head, truth, name, bang, ampersand, chances, other, headOf, state, readState, whole, Spells, spells-truth, spells-name, spells-not, spells-both, spells-until, spells-next}
 use Rattle.csl.specs.Laws.Computing.{computing}
 
 -- what is found has been found before
@@ -32,7 +32,7 @@ unfolding andThen
 then-found nothing next f rest h = nothing-found f rest h
 then-found (found a more) next f rest h = record { first = a; more = more; before = refl; after = h }
 
--- what stood before it: a token that spells something, or a word
+-- what stood before it: a token that spells something
 pub record TokenThen {A : Type 0} (spelled : Text → Option A) (ts : List Text) (next : A → List Text → Found) (f : Formula) (rest : List Text) : Type 0 where
   pub token : Text
   pub value : A
@@ -52,10 +52,6 @@ token-found {A} spelled (w ∷ ts) next f rest h = go (spelled w) refl h
     go none e k = nothing-found f rest k
     go (some a) e k = record { token = w; value = a; more = ts; tokens = refl; is = e; after = k }
 
-word-by : (x : Bool) (y : Found) (f : Formula) (rest : List Text) → (elim x [ true ↦ y | false ↦ nothing ]) ≡ found f rest → (x ≡ true) × (y ≡ found f rest)
-word-by true y f rest h = (refl, h)
-word-by false y f rest h = nothing-found f rest h
-
 -- bytes that are the same are equal
 same-cons : (a b : ℕ) (s t : Text) → a ≡ b → s ≡ t → _≡_ {A = Text} (a ∷ s) (b ∷ t)
 same-cons a b s t h k = rw (h, k) refl
@@ -68,19 +64,6 @@ same-true (a ∷ s) [] h = absurd (false≢true h)
 same-true (a ∷ s) (b ∷ t) h =
     let p : (eqb a b ≡ true) × (same s t ≡ true) = and-eq-true-iff (eqb a b) (same s t) .0 h in
     same-cons a b s t (eqb-true a b (p .0)) (same-true s t (p .1))
-
-pub record WordThen (x : Text) (ts : List Text) (next : List Text → Found) (f : Formula) (rest : List Text) : Type 0 where
-  pub more : List Text
-  pub tokens : ts ≡ x ∷ more
-  pub after : next more ≡ found f rest
-
-word-found : (x : Text) (ts : List Text) (next : List Text → Found) (f : Formula) (rest : List Text) → onWord x ts next ≡ found f rest
-    → WordThen x ts next f rest
-unfolding onWord
-word-found x [] next f rest h = nothing-found f rest h
-word-found x (w ∷ ts) next f rest h =
-    let p = word-by (same w x) (next ts) f rest h in
-    record { more = ts; tokens = ap (λ (y : Text). y ∷ ts) (same-true w x (p .0)); after = p .1 }
 
 -- the token that a head stands for
 unfoldable HeadIs : Text → Head → Type 0
@@ -104,6 +87,21 @@ head-is w = go (same w (bytes "tt")) (isWord w) (same w (bytes "!")) (same w (by
     go false false false false true h i j k l = same-true _ _ l
     go false false false false false h i j k l = tt
 
+-- and the head of a path
+unfoldable PathHeadIs : Text → PathHead → Type 0
+PathHeadIs w untils = w ≡ bytes "U"
+PathHeadIs w nexts = w ≡ bytes "X"
+PathHeadIs w noPath = Unit {0}
+
+path-head-is : (w : Text) → PathHeadIs w (pathHeadOf w)
+unfolding pathHeadOf PathHeadIs
+path-head-is w = go (same w (bytes "U")) (same w (bytes "X")) refl refl
+  where
+    go : (a b : Bool) → same w (bytes "U") ≡ a → same w (bytes "X") ≡ b → PathHeadIs w (cond a untils (cond b nexts noPath))
+    go true b h i = same-true _ _ h
+    go false true h i = same-true _ _ i
+    go false false h i = tt
+
 -- tokens that spell a formula, and what stands after them
 pub record Spelled (f : Formula) (ts rest : List Text) : Type 0 where
   pub tokens : List Text
@@ -119,6 +117,27 @@ found-formula a b s t h = cc
 
 found-rest : (a b : Formula) (s t : List Text) → found a s ≡ found b t → s ≡ t
 found-rest a b s t h = cc
+
+pub record SingleSpelled (make : Formula → Formula) (f : Formula) (ts rest : List Text) : Type 0 where
+  pub a : Formula
+  pub s : List Text
+  pub first : Spells a s
+  pub is : make a ≡ f
+  pub split : ts ≡ s ++ rest
+
+single-sound : (read : Reader) → Sound read → (make : Formula → Formula) (ts : List Text) (f : Formula) (rest : List Text)
+    → single read make ts ≡ found f rest → SingleSpelled make f ts rest
+unfolding single
+single-sound read sound make ts f rest h =
+    let p = then-found (read ts) _ f rest h in
+    let x = sound ts (p .first) (p .more) (p .before) in
+    record {
+      a = p .first;
+      s = x .tokens;
+      first = x .spells;
+      is = found-formula _ _ _ _ (p .after);
+      split = x .split ∙ ap (λ (l : List Text). x .tokens ++ l) (found-rest _ _ _ _ (p .after));
+    }
 
 pub record PairSpelled (make : Formula → Formula → Formula) (f : Formula) (ts rest : List Text) : Type 0 where
   pub a : Formula
@@ -150,22 +169,38 @@ pair-sound read sound make ts f rest h =
           ∙ sym (append-assoc (x .tokens) (y .tokens) rest);
     }
 
--- what stands after the tokens of `P` and `U`
-until-sound : (read : Reader) → Sound read → (sign threshold : Text) (r : Comparison) (v : ℕ) (ts : List Text) (f : Formula) (rest : List Text)
-    → comparisonOf sign ≡ some r → numberOf threshold ≡ some v → path read r v ts ≡ found f rest
-    → Spelled f (bytes "P" ∷ sign ∷ threshold ∷ ts) rest
-unfolding path
-until-sound read sound sign threshold r v ts f rest e i h =
-    let u = word-found (bytes "U") ts _ f rest h in
-    let n = token-found hundredthsOf (u .more) _ f rest (u .after) in
+-- what stands after the tokens of `P` and of a path's head
+path-behind-sound : (read : Reader) → Sound read → (sign threshold : Text) (r : Comparison) (v : ℕ) (w : Text) (head : PathHead) → PathHeadIs w head
+    → (ts : List Text) (f : Formula) (rest : List Text) → comparisonOf sign ≡ some r → numberOf threshold ≡ some v
+    → pathBehind read r v head ts ≡ found f rest → Spelled f (bytes "P" ∷ sign ∷ threshold ∷ w ∷ ts) rest
+unfolding pathBehind PathHeadIs
+path-behind-sound read sound sign threshold r v w untils u ts f rest e i h =
+    let n = token-found hundredthsOf ts _ f rest h in
     let p = pair-sound read sound (λ a b. chance r v (until (n .value) a b)) (n .more) f rest (n .after) in
     record {
       tokens = bytes "P" ∷ sign ∷ threshold ∷ bytes "U" ∷ n .token ∷ p .s ++ p .t;
       spells = subst (λ x. Spells x (bytes "P" ∷ sign ∷ threshold ∷ bytes "U" ∷ n .token ∷ p .s ++ p .t)) (p .is)
           (spells-until sign threshold (n .token) r v (n .value) e i (n .is) (p .first) (p .second));
-      split = ap (λ (l : List Text). bytes "P" ∷ sign ∷ threshold ∷ l)
-          (u .tokens ∙ ap (λ (l : List Text). bytes "U" ∷ l) (n .tokens ∙ ap (λ (l : List Text). n .token ∷ l) (p .split)));
+      split = ap (λ (x : Text). bytes "P" ∷ sign ∷ threshold ∷ x ∷ ts) u
+          ∙ ap (λ (l : List Text). bytes "P" ∷ sign ∷ threshold ∷ bytes "U" ∷ l) (n .tokens ∙ ap (λ (l : List Text). n .token ∷ l) (p .split));
     }
+path-behind-sound read sound sign threshold r v w nexts u ts f rest e i h =
+    let p = single-sound read sound (λ a. chance r v (nextMove a)) ts f rest h in
+    record {
+      tokens = bytes "P" ∷ sign ∷ threshold ∷ bytes "X" ∷ p .s;
+      spells = subst (λ x. Spells x (bytes "P" ∷ sign ∷ threshold ∷ bytes "X" ∷ p .s)) (p .is) (spells-next sign threshold r v e i (p .first));
+      split = ap (λ (x : Text). bytes "P" ∷ sign ∷ threshold ∷ x ∷ ts) u
+          ∙ ap (λ (l : List Text). bytes "P" ∷ sign ∷ threshold ∷ bytes "X" ∷ l) (p .split);
+    }
+path-behind-sound read sound sign threshold r v w noPath u ts f rest e i h = nothing-found f rest h
+
+path-sound : (read : Reader) → Sound read → (sign threshold : Text) (r : Comparison) (v : ℕ) (ts : List Text) (f : Formula) (rest : List Text)
+    → comparisonOf sign ≡ some r → numberOf threshold ≡ some v → path read r v ts ≡ found f rest
+    → Spelled f (bytes "P" ∷ sign ∷ threshold ∷ ts) rest
+unfolding path
+path-sound read sound sign threshold r v [] f rest e i h = nothing-found f rest h
+path-sound read sound sign threshold r v (w ∷ ts) f rest e i h =
+    path-behind-sound read sound sign threshold r v w (pathHeadOf w) (path-head-is w) ts f rest e i h
 
 state-sound : (read : Reader) → Sound read → (w : Text) (head : Head) → HeadIs w head → (ts : List Text) (f : Formula) (rest : List Text)
     → state read w head ts ≡ found f rest → Spelled f (w ∷ ts) rest
@@ -183,13 +218,11 @@ state-sound read sound w name i ts f rest h =
       split = ap (λ (l : List Text). w ∷ l) (found-rest _ _ _ _ h);
     }
 state-sound read sound w bang i ts f rest h =
-    let p = then-found (read ts) _ f rest h in
-    let x = sound ts (p .first) (p .more) (p .before) in
+    let p = single-sound read sound negated ts f rest h in
     record {
-      tokens = bytes "!" ∷ x .tokens;
-      spells = subst (λ y. Spells y (bytes "!" ∷ x .tokens)) (found-formula _ _ _ _ (p .after)) (spells-not (x .spells));
-      split = ap (λ (y : Text). y ∷ ts) i
-          ∙ ap (λ (l : List Text). bytes "!" ∷ l) (x .split ∙ ap (λ (l : List Text). x .tokens ++ l) (found-rest _ _ _ _ (p .after)));
+      tokens = bytes "!" ∷ p .s;
+      spells = subst (λ y. Spells y (bytes "!" ∷ p .s)) (p .is) (spells-not (p .first));
+      split = ap (λ (y : Text). y ∷ ts) i ∙ ap (λ (l : List Text). bytes "!" ∷ l) (p .split);
     }
 state-sound read sound w ampersand i ts f rest h =
     let p = pair-sound read sound both ts f rest h in
@@ -201,7 +234,7 @@ state-sound read sound w ampersand i ts f rest h =
 state-sound read sound w chances i ts f rest h =
     let c = token-found comparisonOf ts _ f rest h in
     let n = token-found numberOf (c .more) _ f rest (c .after) in
-    let x = until-sound read sound (c .token) (n .token) (c .value) (n .value) (n .more) f rest (c .is) (n .is) (n .after) in
+    let x = path-sound read sound (c .token) (n .token) (c .value) (n .value) (n .more) f rest (c .is) (n .is) (n .after) in
     record {
       tokens = x .tokens;
       spells = x .spells;
@@ -221,6 +254,11 @@ read-sound (suc k) (w ∷ ts) f rest h = state-sound (readState k) (read-sound k
 abbrev Complete : Reader → Formula → List Text → Type 0
 Complete read f s = (rest : List Text) → read (s ++ rest) ≡ found f rest
 
+single-complete : (read : Reader) (make : Formula → Formula) (a : Formula) (s : List Text) → Complete read a s → (rest : List Text)
+    → single read make (s ++ rest) ≡ found (make a) rest
+unfolding single andThen
+single-complete read make a s h rest = rw (h rest) refl
+
 pair-complete : (read : Reader) (make : Formula → Formula → Formula) (a b : Formula) (s t : List Text)
     → Complete read a s → Complete read b t → (rest : List Text) → pair read make (s ++ t ++ rest) ≡ found (make a b) rest
 unfolding pair andThen
@@ -232,23 +270,36 @@ spelled-token : {A : Type 0} (spelled : Text → Option A) (w : Text) (ts : List
 unfolding onToken
 spelled-token spelled w ts next a e = rw (e, onToken) refl
 
-u-token : (ts : List Text) (next : List Text → Found) → onWord (bytes "U") (bytes "U" ∷ ts) next ≡ next ts
-unfolding onWord same
-u-token ts next = refl
+path-heads : (pathHeadOf (bytes "U") ≡ untils) × (pathHeadOf (bytes "X") ≡ nexts)
+unfolding computing
+path-heads = (refl, refl)
+
+headed-path : (read : Reader) (r : Comparison) (p : ℕ) (w : Text) (head : PathHead) (ts : List Text) → pathHeadOf w ≡ head
+    → path read r p (w ∷ ts) ≡ pathBehind read r p head ts
+unfolding path
+headed-path read r p w head ts e = rw e refl
 
 until-complete : (read : Reader) (a b : Formula) (s t : List Text) (sign threshold hours : Text) (r : Comparison) (v u : ℕ)
     → comparisonOf sign ≡ some r → numberOf threshold ≡ some v → hundredthsOf hours ≡ some u
     → Complete read a s → Complete read b t → (rest : List Text)
     → state read (bytes "P") chances (sign ∷ threshold ∷ bytes "U" ∷ hours ∷ (s ++ t ++ rest))
     ≡ found (chance r v (until u a b)) rest
-unfolding state path
+unfolding state pathBehind
 until-complete read a b s t sign threshold hours r v u e i j h k rest =
-    spelled-token comparisonOf sign _ _ r e ∙ spelled-token numberOf threshold _ _ v i ∙ u-token _ _
+    spelled-token comparisonOf sign _ _ r e ∙ spelled-token numberOf threshold _ _ v i ∙ headed-path read r v (bytes "U") untils _ (path-heads .0)
     ∙ spelled-token hundredthsOf hours _ _ u j ∙ pair-complete read (λ a b. chance r v (until u a b)) a b s t h k rest
 
+next-complete : (read : Reader) (a : Formula) (s : List Text) (sign threshold : Text) (r : Comparison) (v : ℕ)
+    → comparisonOf sign ≡ some r → numberOf threshold ≡ some v → Complete read a s → (rest : List Text)
+    → state read (bytes "P") chances (sign ∷ threshold ∷ bytes "X" ∷ (s ++ rest)) ≡ found (chance r v (nextMove a)) rest
+unfolding state pathBehind
+next-complete read a s sign threshold r v e i h rest =
+    spelled-token comparisonOf sign _ _ r e ∙ spelled-token numberOf threshold _ _ v i ∙ headed-path read r v (bytes "X") nexts _ (path-heads .1)
+    ∙ single-complete read (λ a. chance r v (nextMove a)) a s h rest
+
 not-complete : (read : Reader) (a : Formula) (s rest : List Text) → Complete read a s → state read (bytes "!") bang (s ++ rest) ≡ found (negated a) rest
-unfolding state andThen
-not-complete read a s rest h = rw (h rest) refl
+unfolding state
+not-complete read a s rest h = single-complete read negated a s h rest
 
 both-complete : (read : Reader) (a b : Formula) (s t rest : List Text) → Complete read a s → Complete read b t
     → state read (bytes "&") ampersand (s ++ t ++ rest) ≡ found (both a b) rest
@@ -287,6 +338,9 @@ read-complete (spells-until {a = a} {b = b} {s = s} {t = t} sign threshold hours
     rw (fixed-heads .3)
     (until-complete (readState k) a b s t sign threshold hours r v u e i j (λ x. read-complete p k (omega (arith, length-append s t)) x)
     (λ x. read-complete q k (omega (arith, length-append s t)) x) rest)
+read-complete (spells-next sign threshold r v e i p) zero l rest = absurd (omega arith)
+read-complete (spells-next {a = a} {s = s} sign threshold r v e i p) (suc k) l rest =
+    rw (fixed-heads .3) (next-complete (readState k) a s sign threshold r v e i (λ x. read-complete p k (omega arith) x) rest)
 
 -- so tokens are read as a formula exactly where they spell it, all of them
 whole-found : (x : Found) (f : Formula) → whole x ≡ some f → x ≡ found f []

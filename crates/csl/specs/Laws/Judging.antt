@@ -8,7 +8,7 @@ use lib.Dec.{leb, ltb}
 use borrow.Author.Tests.{leb-true, ltb-true}
 use Rattle.csl.specs.Formula.{Comparison, Less, AtMost, AtLeast, More}
 use Rattle.csl.specs.Fraction.{Fraction, IsFraction, Below, plus, billionths, part}
-use Rattle.csl.specs.Limit.{Value, limit, Each, FromSome, LimitIs, Holds, opposite}
+use Rattle.csl.specs.Limit.{Value, exact, limit, Each, FromSome, LimitIs, FractionIs, Holds, opposite}
 use Rattle.csl.specs.Verdicts.{Verdict, No, Yes, Undecided, negation, judged, judgedAtLeast, judgedMore, Agrees, Decided, asNo}
 use Rattle.csl.specs.Truth.{Entry}
 use Rattle.csl.specs.Laws.Value.{Fractions}
@@ -114,13 +114,29 @@ from-meet x is P Q h k =
     let n : ℕ = h .begin + k .begin in
     record { at = x n; is = is n; left = h .all n (omega arith); right = k .all n (omega arith) }
 
+-- exact fractions
+exact-apart : (x : Fraction) (p : ℕ) (r : Comparison) → FractionIs r p x → FractionIs (opposite r) p x → ⊥
+exact-apart x p Less h k = omega (arith, h, k)
+exact-apart x p AtMost h k = omega (arith, h, k)
+exact-apart x p AtLeast h k = omega (arith, h, k)
+exact-apart x p More h k = omega (arith, h, k)
+
+exact-says : (x : Fraction) → IsFraction x → (p lower upper : ℕ) → Below (billionths lower) x → Below x (billionths upper)
+    → (r : Comparison) → Says (judged r p lower upper) r (λ r. FractionIs r p x)
+exact-says x is p lower upper b a =
+    says (λ r. FractionIs r p x) p lower upper (λ h. omega (arith, mul-le-mul-right (x .bottom) h, b))
+    (λ h. omega (arith, is, mul-le-mul-right (x .bottom) h, a)) (λ h. omega (arith, mul-le-mul-right (x .bottom) h, a))
+    (λ h. omega (arith, is, mul-le-mul-right (x .bottom) h, b))
+
 -- a comparison and its opposite exclude each other
 pub apart : (x : Value) → Fractions x → (p : ℕ) (r : Comparison) → Holds r p x → Holds (opposite r) p x → ⊥
+apart (exact x) is p r h k = exact-apart x p r h k
 apart (limit d x) is p r h k = limit-apart (FromSome x) p (from-meet x is) r h k
 
-pub settles : (x : Value) (lower upper : ℕ) → Each (λ y. Below (billionths lower) y) x → Each (λ y. Below y (billionths upper)) x
-    → (r : Comparison) (p : ℕ) → Settles (judged r p lower upper) r p x
-settles (limit d x) lower upper below above r p =
+pub settles : (x : Value) → Fractions x → (lower upper : ℕ) → Each (λ y. Below (billionths lower) y) x
+    → Each (λ y. Below y (billionths upper)) x → (r : Comparison) (p : ℕ) → Settles (judged r p lower upper) r p x
+settles (exact x) is lower upper below above r p = exact-says x is p lower upper below above r
+settles (limit d x) is lower upper below above r p =
     limit-says (FromSome x) p lower upper (λ P f. record { begin = d; all = λ n l. f (x n) (below n l) (above n l) }) r
 
 -- so an entry that obeys agrees

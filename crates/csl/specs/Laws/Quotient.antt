@@ -109,13 +109,13 @@ until-same c t a b a' b' h k s n l =
     (omega (arith, up .tops, down .tops), up .bottoms)
 
 -- undecided as no is the least reading, undecided as yes the greatest
-as-no-least : (v : Verdict) (b : Bool) → Agrees v b → asNo v ≡ true → b ≡ true
+pub as-no-least : (v : Verdict) (b : Bool) → Agrees v b → asNo v ≡ true → b ≡ true
 unfolding Agrees
 as-no-least No b h e = absurd (true≢false (sym e))
 as-no-least Yes b h e = h
 as-no-least Undecided b h e = absurd (true≢false (sym e))
 
-as-yes-greatest : (v : Verdict) (b : Bool) → Agrees v b → b ≡ true → asYes v ≡ true
+pub as-yes-greatest : (v : Verdict) (b : Bool) → Agrees v b → b ≡ true → asYes v ≡ true
 unfolding Agrees
 as-yes-greatest No b h e = sym h ∙ e
 as-yes-greatest Yes b h e = refl

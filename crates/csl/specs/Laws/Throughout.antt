@@ -2,11 +2,11 @@
 use mathlib.Core.Path.{refl, sym, _∙_}
 use mathlib.Core.Bool.{Bool, true, false, not, _&&_, _||_}
 use Prim.Native.Nat.{ℕ}
-use Rattle.csl.specs.Formula.{Comparison, Formula, always, label, negated, both, chance, Path, until, PathOf, untilOf}
+use Rattle.csl.specs.Formula.{Comparison, Formula, always, label, negated, both, chance, Path, until, nextMove, PathOf, untilOf, nextOf}
 use Rattle.csl.specs.Chain.{Chain}
 use Rattle.csl.specs.Limit.{Value}
 use Rattle.csl.specs.Verdicts.{Verdict, No, Yes, Undecided, Agrees, Sides, asNo}
-use Rattle.csl.specs.Path.{valueAt, Reads, reads-until}
+use Rattle.csl.specs.Path.{valueAt, Reads, reads-until, reads-next}
 use Rattle.csl.specs.Backing.{AtEach, Backed, PathBacked, ChanceKeeps, SidesThroughout, SidesThroughoutIn}
 use Rattle.csl.specs.Truth.{Throughout, ThroughoutIn, Obeys, PathObeys, ChanceObeys}
 use Rattle.csl.specs.Laws.Value.{Fractions}
@@ -37,6 +37,7 @@ mutual
       → ThroughoutIn c w (ChanceKeeps c r p lower upper v) (ChanceObeys c r p b) k o
   throughout-in c (until t a e) r p lower upper v b k o =
       (throughout c a _ _ (k .first-backed) (o .first-obeys), throughout c e _ _ (k .second-backed) (o .second-obeys))
+  throughout-in c (nextMove a) r p lower upper v b k o = throughout c a _ _ (k .first-backed) (o .first-obeys)
 
 -- the rule of sides, of one `P` and of every `P`
 pub sides : (c : Chain) (r : Comparison) (p : ℕ) (lower upper : ℕ → ℕ) (v : ℕ → Verdict) (o : PathOf (ℕ → Verdict))
@@ -61,6 +62,7 @@ mutual
       (k : PathBacked c w (ChanceKeeps c r p lower upper v)) → SidesThroughoutIn c w (ChanceKeeps c r p lower upper v) k
   sides-throughout-in c (until t a e) r p lower upper v k =
       (sides-throughout c a _ (k .first-backed), sides-throughout c e _ (k .second-backed))
+  sides-throughout-in c (nextMove a) r p lower upper v k = sides-throughout c a _ (k .first-backed)
 
 -- one yes or no agrees with both verdicts
 pub record Together (v w : Verdict) : Type 0 where
@@ -159,6 +161,18 @@ mutual
         reading = untilOf t x y;
         one-read = reads-until t (k .first) (k .second) x y (λ u q. together-left _ _ (h u q)) (λ u q. together-left _ _ (j u q));
         other-read = reads-until t (m .first) (m .second) x y (λ u q. together-right _ _ (h u q)) (λ u q. together-right _ _ (j u q));
+        one-kept = k .keeps;
+        other-kept = m .keeps;
+      }
+  shared c (nextMove a) r p lower upper v lower' upper' w k m =
+      let h : AtEach c λ u. Together (k .first u) (m .first u) = backings-agree c a _ _ (k .first-backed) (m .first-backed) in
+      let x : ℕ → Bool = λ u. either (k .first u) (m .first u) in
+      record {
+        one = _;
+        other = _;
+        reading = nextOf x;
+        one-read = reads-next (k .first) x (λ u q. together-left _ _ (h u q));
+        other-read = reads-next (m .first) x (λ u q. together-right _ _ (h u q));
         one-kept = k .keeps;
         other-kept = m .keeps;
       }

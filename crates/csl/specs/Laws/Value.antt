@@ -1,27 +1,32 @@
 -- Values: what all their quotients are, and the order of two readings' values. Assumes nothing.
 use Prim.Native.Nat.{ℕ}
-use Rattle.csl.specs.Formula.{PathOf, untilOf, mapped}
+use Rattle.csl.specs.Formula.{PathOf, untilOf, nextOf, mapped}
 use Rattle.csl.specs.Fraction.{Fraction, IsFraction, Below}
-use Rattle.csl.specs.Limit.{Value, limit, Each}
+use Rattle.csl.specs.Limit.{Value, exact, limit, Each}
 use Rattle.csl.specs.Verdicts.{Verdict, least}
-use Rattle.csl.specs.Path.{Reads, reads-until}
+use Rattle.csl.specs.Path.{Reads, reads-until, reads-next}
 use Rattle.csl.specs.Laws.Verdicts.{as-no-reads}
 use Rattle.csl.specs.Laws.Fraction.{Under, under-left, under-right}
 
 -- each of its quotients is a fraction
 abbrev pub Fractions : Value → Type 0
+Fractions (exact x) = IsFraction x
 Fractions (limit d x) = (n : ℕ) → IsFraction (x n)
 
 -- one value is under another: of one depth, and each quotient under the other's
 pub data Rises : Value → Value → Type 0 where
+  exact-rises : (x y : Fraction) → Under x y → Rises (exact x) (exact y)
   limit-rises : (d : ℕ) (x y : ℕ → Fraction) → ((n : ℕ) → Under (x n) (y n)) → Rises (limit d x) (limit d y)
 
 pub each-over : (z : Fraction) (x y : Value) → Rises x y → Each (λ u. Below z u) x → Each (λ u. Below z u) y
+each-over z _ _ (exact-rises x y h) k = under-right z x y h k
 each-over z _ _ (limit-rises d x y h) k = λ n l. under-right z (x n) (y n) (h n) (k n l)
 
 pub each-under : (z : Fraction) (x y : Value) → Rises x y → Each (λ u. Below u z) y → Each (λ u. Below u z) x
+each-under z _ _ (exact-rises x y h) k = under-left x y z h k
 each-under z _ _ (limit-rises d x y h) k = λ n l. under-left (x n) (y n) z (h n) (k n l)
 
 -- undecided read as no is a reading
 pub reads-least : (n : ℕ) (o : PathOf (ℕ → Verdict)) → Reads n o (mapped least o)
 reads-least n (untilOf t v w) = reads-until t v w (least v) (least w) (λ s l. as-no-reads (v s)) (λ s l. as-no-reads (w s))
+reads-least n (nextOf v) = reads-next v (least v) (λ s l. as-no-reads (v s))

@@ -1,14 +1,14 @@
 -- `store` meets its contract. Assumes nothing.
-use Rattle.sheet_words.proofs.StoreLaw.{store-asked, first-words, words-counted, prepare-asked, marks-asked, stored}
+use Rattle.sheet_words.proofs.StoreLaw.{first-words, words-counted, prepare-asked, marks-asked, stored}
 use borrow.Author.Needs.{needs}
 use Rattle.sheet_words.proofs.store.Statement.{statement}
 use Rattle.sheet_words.proofs.store.Tie as tie
 
 store-requires : tie.Need-store-requires
-store-requires c κs = search (needs, store-asked)
+store-requires c κs = search needs
 
-slice-reshare-prefix-prepare : tie.Need-slice-reshare-prefix-prepare
-slice-reshare-prefix-prepare c = search (needs, first-words)
+slice-relend-prefix-prepare : tie.Need-slice-relend-prefix-prepare
+slice-relend-prefix-prepare c = search (needs, first-words)
 
 slice-aggregate-prepare : tie.Need-slice-aggregate-prepare
 slice-aggregate-prepare c = search (needs, words-counted)
@@ -33,7 +33,7 @@ store-spec =
     tie.close
     (tie.spec
     store-requires
-    slice-reshare-prefix-prepare
+    slice-relend-prefix-prepare
     slice-aggregate-prepare
     prepare-requires
     store-marks-requires

@@ -19,10 +19,13 @@ prepare-requires c κs = search (needs, is-laid)
 same-length : tie.Need-same-length
 same-length c = search (needs, is-laid)
 
+same-length-2 : tie.Need-same-length-2
+same-length-2 c = search (needs, is-laid)
+
 returns : tie.Need-returns
 returns c = search (needs, is-laid)
 
 pub prepare-spec : {M : Type 1} → statement M
 prepare-spec =
     tie.close
-    (tie.spec marks-requires clear-from-requires mul-prepare prepare-requires same-length returns)
+    (tie.spec marks-requires clear-from-requires mul-prepare prepare-requires same-length same-length-2 returns)

@@ -16,14 +16,14 @@ enum-told-3 c = search needs
 enum-told-4 : tie.Need-enum-told-4
 enum-told-4 c = search needs
 
-enum-told-5 : tie.Need-enum-told-5
-enum-told-5 c = search needs
+enum-known-kind : tie.Need-enum-known-kind
+enum-known-kind c = search needs
 
 after-two-requires : tie.Need-after-two-requires
 after-two-requires c κs = search needs
 
-after-two-requires-2 : tie.Need-after-two-requires-2
-after-two-requires-2 c κs = search needs
+behind-path-requires : tie.Need-behind-path-requires
+behind-path-requires c κs = search needs
 
 returns : tie.Need-returns
 returns c = search (needs, own-laws)
@@ -48,9 +48,9 @@ behind-own-spec =
     enum-told-2
     enum-told-3
     enum-told-4
-    enum-told-5
+    enum-known-kind
     after-two-requires
-    after-two-requires-2
+    behind-path-requires
     returns
     returns-2
     returns-3

@@ -4,8 +4,8 @@ use borrow.Author.Needs.{needs}
 use Rattle.formula.proofs.lay.read_path.Statement.{statement}
 use Rattle.formula.proofs.lay.read_path.Tie as tie
 
-read-hours-requires : tie.Need-read-hours-requires
-read-hours-requires c κs = search needs
+read-course-requires : tie.Need-read-course-requires
+read-course-requires c κs = search needs
 
 enum-told : tie.Need-enum-told
 enum-told c = search needs
@@ -25,22 +25,34 @@ before-requires c κs = search needs
 before-requires-2 : tie.Need-before-requires-2
 before-requires-2 c κs = search needs
 
+enum-told-2 : tie.Need-enum-told-2
+enum-told-2 c = search needs
+
+before-requires-3 : tie.Need-before-requires-3
+before-requires-3 c κs = search needs
+
 returns : tie.Need-returns
 returns c = search (needs, route-laws)
 
 returns-2 : tie.Need-returns-2
 returns-2 c = search (needs, route-laws)
 
+returns-3 : tie.Need-returns-3
+returns-3 c = search (needs, route-laws)
+
 pub read-path-spec : {M : Type 1} → statement M
 read-path-spec =
     tie.close
     (tie.spec
-    read-hours-requires
+    read-course-requires
     enum-told
     enum-known-hundredths
     after-two-requires
     second-nodes-requires
     before-requires
     before-requires-2
+    enum-told-2
+    before-requires-3
     returns
-    returns-2)
+    returns-2
+    returns-3)

@@ -11,23 +11,26 @@ enum-told c = search needs
 enum-told-2 : tie.Need-enum-told-2
 enum-told-2 c = search needs
 
+hours-pass-requires : tie.Need-hours-pass-requires
+hours-pass-requires c κs = search needs
+
 enum-known-test : tie.Need-enum-known-test
 enum-known-test c = search needs
 
-light-requires : tie.Need-light-requires
-light-requires c κs = search needs
+load-passes-requires : tie.Need-load-passes-requires
+load-passes-requires c κs = search needs
 
 returns : tie.Need-returns
 returns c = search needs
 
 returns-2 : tie.Need-returns-2
-returns-2 c = rw (c .before .before .enum-told2 .given .1, le-leb _ mostThreshold (c .before .if1 .taken))
+returns-2 c = rw (c .before .before .enum-told2 .given .1, le-leb _ mostThreshold (c .before .if1 .taken)) (c .hours-pass .ensures)
 
 returns-3 : tie.Need-returns-3
 returns-3 c = rw (c .before .enum-told2 .given .1, lt-leb _ mostThreshold (c .if1 .left))
 
 returns-4 : tie.Need-returns-4
-returns-4 c = rw (c .before .before .test .given .1, c .light .ensures)
+returns-4 c = rw (c .before .before .test .given .1) (c .load-passes .ensures)
 
 pub path-passes-spec : {M : Type 1} → statement M
 path-passes-spec =
@@ -35,8 +38,9 @@ path-passes-spec =
     (tie.spec
     enum-told
     enum-told-2
+    hours-pass-requires
     enum-known-test
-    light-requires
+    load-passes-requires
     returns
     returns-2
     returns-3

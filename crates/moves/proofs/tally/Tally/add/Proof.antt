@@ -24,7 +24,7 @@ returns c = search (needs, plain-line)
 
 returns-2 : tie.Need-returns-2
 returns-2 c =
-    let told = c .before .before .before .before in
+    let told = c .before .before .before in
     rw (told .before .before .add .ensures)
 
 pub add-spec : {M : Type 1} → statement M

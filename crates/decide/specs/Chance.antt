@@ -1,0 +1,91 @@
+-- What the report of a `P` asks, once its path's operands are decided, and what it leaves. Assumes nothing.
+use mathlib.Core.Path.{_≡_}
+use mathlib.Core.Bool.{true}
+use mathlib.Core.List.{List}
+use Prim.Native.Nat.{ℕ, _+_, _*_, _≤_, _<_}
+use lib.ListN.{length}
+use Rattle.csl.specs.Limits.{mostThreshold, mostRateHundredths}
+use Rattle.csl.specs.Formula.{PathOf, untilOf, nextOf, mapped, phasesPass, Comparison}
+use Rattle.csl.specs.Chain.{Chain}
+use Rattle.csl.specs.Verdicts.{Verdict}
+use Rattle.csl.specs.Path.{meaning}
+use Rattle.csl.specs.Lent.{verdictByte}
+use Rattle.numbers.specs.Filled.{at, Table, Twin}
+use Rattle.bounds.specs.Found.{lowerPath, upperPath, verdictPath}
+use Rattle.verdicts.specs.Byte.{verdictAt}
+use Rattle.rate_matrix.specs.Shown.{Shows}
+use Rattle.vectors.specs.Places.{EndsStored}
+use Rattle.vectors.specs.Prepared.{Prepared}
+use Rattle.vectors.specs.Owns.{Owns}
+use Rattle.verdict_rows.specs.Row.{EndsIn}
+use Rattle.formula.specs.Nodes.{pathMeant}
+use Rattle.formula.specs.Operands.{operandsIn}
+use Rattle.formula.specs.Pass.{lightOf}
+use Rattle.formula.specs.declared.nodes.Path.{Path}
+use Rattle.decide.specs.Rows.{rowsOf, RowsHold, RowLeft}
+
+-- The ends and the depth of a path whose operands have the verdicts in o.
+pub record PathEnds (c : Chain) (o : PathOf (ℕ → Verdict)) (n : ℕ) (l₀ l : List ℕ) (d : ℕ) : Type 0 where
+  pub ends : EndsStored (lowerPath c o) (upperPath c o) n l₀ l
+  pub range : EndsIn n l
+  pub deep : d ≡ meaning c o .depth
+
+-- the verdict bytes of a `P` over it, with the comparison r and the threshold p
+abbrev pub chanceByte : Chain → Comparison → ℕ → PathOf (ℕ → Verdict) → ℕ → ℕ
+chanceByte c r p o s = verdictByte (verdictPath c r p o s)
+
+-- A `P` with the threshold p, over an until of t hundredths of an hour, is to be decided from the rows of its operands.
+pub record UntilAsked (mv l marks : List ℕ) (n q t p : ℕ) : Type 0 where
+  pub c : Chain
+  pub shows : Shows c mv (length mv) n
+  pub prepared : Prepared mv l n q
+  pub load : q * t ≤ mostRateHundredths
+  pub threshold : p ≤ mostThreshold
+  pub held : n + n ≤ length marks
+
+-- It is decided, whatever the verdicts are that the bytes of the two rows stand for; the second row holds 0 again.
+pub record UntilDecided (c : Chain) (r : Comparison) (p : ℕ) (o : PathOf (ℕ → Verdict)) (n : ℕ) (l₀ l marks₀ marks : List ℕ) (d : ℕ) : Type 0 where
+  pub rows : Twin (chanceByte c r p o) (λ _. 0) 0 n n marks₀ marks
+  pub report : PathEnds c o n l₀ l d
+
+abbrev pub UntilLeaves : {mv l marks : List ℕ} {n q t p : ℕ} → UntilAsked mv l marks n q t p → Comparison → (l' marks' : List ℕ) → ℕ → Type 0
+UntilLeaves {l = l} {marks = marks} {n = n} {t = t} {p = p} a r l' marks' d =
+    (v w : ℕ → Verdict) → ((s : ℕ) → s < n → verdictAt (at marks s) ≡ v s) → ((s : ℕ) → s < n → verdictAt (at marks (n + s)) ≡ w s)
+    → UntilDecided (a .c) r p (untilOf t v w) n l l' marks marks' d
+
+-- The same over a next move, from the row of its operand.
+pub record NextAsked (mv l marks : List ℕ) (n p : ℕ) : Type 0 where
+  pub c : Chain
+  pub q : ℕ
+  pub shows : Shows c mv (length mv) n
+  pub prepared : Prepared mv l n q
+  pub owns : Owns c l n
+  pub threshold : p ≤ mostThreshold
+  pub held : n ≤ length marks
+
+pub record NextDecided (c : Chain) (r : Comparison) (p : ℕ) (o : PathOf (ℕ → Verdict)) (n : ℕ) (l₀ l marks₀ marks : List ℕ) (d : ℕ) : Type 0 where
+  pub row : Table (chanceByte c r p o) marks₀ marks n
+  pub report : PathEnds c o n l₀ l d
+
+abbrev pub NextLeaves : {mv l marks : List ℕ} {n p : ℕ} → NextAsked mv l marks n p → Comparison → (l' marks' : List ℕ) → ℕ → Type 0
+NextLeaves {l = l} {marks = marks} {n = n} {p = p} a r l' marks' d =
+    (v : ℕ → Verdict) → ((s : ℕ) → s < n → verdictAt (at marks s) ≡ v s) → NextDecided (a .c) r p (nextOf v) n l l' marks marks' d
+
+-- And over any path.
+pub record ChanceAsked (mv l marks : List ℕ) (path : Path) (p n q : ℕ) : Type 0 where
+  pub c : Chain
+  pub shows : Shows c mv (length mv) n
+  pub prepared : Prepared mv l n q
+  pub owns : Owns c l n
+  pub load : phasesPass (lightOf q) (pathMeant path) ≡ true
+  pub threshold : p ≤ mostThreshold
+  pub held : rowsOf (operandsIn (pathMeant path)) * n ≤ length marks
+
+pub record ChanceDecided (c : Chain) (r : Comparison) (p : ℕ) (path : Path) (vs : ℕ → ℕ → Verdict) (n : ℕ) (l₀ l marks₀ marks : List ℕ) (d : ℕ) : Type 0 where
+  pub row : RowLeft (operandsIn (pathMeant path)) (chanceByte c r p (mapped vs (pathMeant path))) n marks₀ marks
+  pub report : PathEnds c (mapped vs (pathMeant path)) n l₀ l d
+
+-- where vs has the verdicts of the operands, by their places
+abbrev pub ChanceLeaves : {mv l marks : List ℕ} {path : Path} {p n q : ℕ} → ChanceAsked mv l marks path p n q → Comparison → (l' marks' : List ℕ) → ℕ → Type 0
+ChanceLeaves {l = l} {marks = marks} {path = path} {p = p} {n = n} a r l' marks' d =
+    (vs : ℕ → ℕ → Verdict) → RowsHold (operandsIn (pathMeant path)) vs marks n → ChanceDecided (a .c) r p path vs n l l' marks marks' d

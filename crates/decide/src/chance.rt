@@ -1,0 +1,80 @@
+// The report of a `P`, from the rows of its path's operands.
+use crate::rows::clear_second;
+use formula::Path;
+use verdicts::Comparison;
+ghost use Rattle.verdicts.specs.Paper.{comparisonOf};
+ghost use Rattle.decide.specs.Chance.{UntilAsked, UntilLeaves, NextAsked, NextLeaves, ChanceAsked, ChanceLeaves};
+
+// Over an until, the row of whose first operand is its own; that of the second, behind it, is put back to 0.
+fn over_until(
+    moves: &[u64],
+    vectors: &mut [u64],
+    marks: &mut [u8],
+    n: usize,
+    q: u64,
+    hundredths: u64,
+    comparison: Comparison,
+    threshold: u64,
+) -> usize
+    requires { ⌜ UntilAsked (now moves) (now vectors) (now marks) n q hundredths threshold ⌝ }
+    ensures { λ r. ⌜ ((a : UntilAsked (now (moves .entry)) (now (vectors .entry)) (now (marks .entry)) n q hundredths threshold)
+        → UntilLeaves a (comparisonOf comparison) (now (vectors .exit)) (now (marks .exit)) r) ⌝ }
+{
+    let rows = &marks[..];
+    let depth = until::until(moves, vectors, rows, &rows[n..], n, q, hundredths);
+    verdict_rows::judge(vectors, comparison, threshold as u32, marks, n);
+    clear_second(marks, n);
+    depth
+}
+
+// Over a next move, the row of whose operand is its own; its depth is 0.
+fn over_next(
+    moves: &[u64],
+    vectors: &mut [u64],
+    marks: &mut [u8],
+    n: usize,
+    comparison: Comparison,
+    threshold: u64,
+) -> usize
+    requires { ⌜ NextAsked (now moves) (now vectors) (now marks) n threshold ⌝ }
+    ensures { λ r. ⌜ ((a : NextAsked (now (moves .entry)) (now (vectors .entry)) (now (marks .entry)) n threshold)
+        → NextLeaves a (comparisonOf comparison) (now (vectors .exit)) (now (marks .exit)) r) ⌝ }
+{
+    next_move::next_move(moves, vectors, marks, n);
+    verdict_rows::judge(vectors, comparison, threshold as u32, marks, n);
+    0
+}
+
+// Of any path.
+pub fn chance(
+    path: Path,
+    comparison: Comparison,
+    threshold: u64,
+    moves: &[u64],
+    vectors: &mut [u64],
+    marks: &mut [u8],
+    n: usize,
+    q: u64,
+) -> usize
+    requires { ⌜ ChanceAsked (now moves) (now vectors) (now marks) path threshold n q ⌝ }
+    ensures { λ r. ⌜ ((a : ChanceAsked (now (moves .entry)) (now (vectors .entry)) (now (marks .entry)) path threshold n q)
+        → ChanceLeaves a (comparisonOf comparison) (now (vectors .exit)) (now (marks .exit)) r) ⌝ }
+{
+    match path {
+        Path::Until {
+            hundredths,
+            first: _,
+            second: _,
+        } => over_until(
+            moves,
+            vectors,
+            marks,
+            n,
+            q,
+            hundredths,
+            comparison,
+            threshold,
+        ),
+        Path::Next(_) => over_next(moves, vectors, marks, n, comparison, threshold),
+    }
+}
