@@ -24,9 +24,9 @@ use Rattle.grammar.specs.declared.head.Head.the-variants.{Ampersand}
 use Rattle.grammar.specs.Chance.{BoundRead}
 use Rattle.grammar.specs.declared.chance.Bound.{Bound}
 use Rattle.grammar.specs.declared.chance.Bound.the-variants as bound
-use Rattle.grammar.specs.Course.{courseOf, path-course}
-use Rattle.grammar.specs.declared.course.Course.{Course}
-use Rattle.grammar.specs.declared.course.Course.the-variants as course
+use Rattle.grammar.specs.PathStart.{pathStartOf, path-by-start}
+use Rattle.grammar.specs.declared.path_start.PathStart.{PathStart}
+use Rattle.grammar.specs.declared.path_start.PathStart.the-variants as start
 use Rattle.formula.specs.Size.{sizeOf}
 use Rattle.formula.specs.declared.size.Size.{Size}
 use Rattle.formula.specs.declared.size.Size.the-variants.{Read, Wrong}
@@ -85,18 +85,18 @@ held-again AtLeast = refl
 held-again More = refl
 
 -- h is what the rest s begins with
-module _ (s : Text) (i : ℕ) (h : Course) (is : h ≡ courseOf (tokens s)) where
-  pub route-none : h ≡ course.Missing → RouteRead i (tokens s) route.Missing
-  route-none e c p = rw (path-course, ← is, e)
+module _ (s : Text) (i : ℕ) (h : PathStart) (is : h ≡ pathStartOf (tokens s)) where
+  pub route-none : h ≡ start.Missing → RouteRead i (tokens s) route.Missing
+  route-none e c p = rw (path-by-start, ← is, e)
 
-  pub route-until : (t : ℕ) (u : Text) (n first second : ℕ) → h ≡ course.Until t → u ≡ afterPart space (afterPart space s)
+  pub route-until : (t : ℕ) (u : Text) (n first second : ℕ) → h ≡ start.Until t → u ≡ afterPart space (afterPart space s)
       → n ≡ nodesSecond (tokens u) → first ≡ i - suc n → second ≡ i - 1 → RouteRead i (tokens s) (route.Is (path.Until t first second))
   unfolding pair andThen
-  route-until t u n first second e v q x y c p = rw (path-course, ← is, e, two-tail s u v, ← q, held-again, x, y)
+  route-until t u n first second e v q x y c p = rw (path-by-start, ← is, e, two-tail s u v, ← q, held-again, x, y)
 
-  pub route-next : (place : ℕ) → h ≡ course.Next → place ≡ i - 1 → RouteRead i (tokens s) (route.Is (path.Next place))
+  pub route-next : (place : ℕ) → h ≡ start.Next → place ≡ i - 1 → RouteRead i (tokens s) (route.Is (path.Next place))
   unfolding single andThen
-  route-next place e x c p = rw (path-course, ← is, e, held-again, x)
+  route-next place e x c p = rw (path-by-start, ← is, e, held-again, x)
 
 pub ruleset route-laws = (route-none, route-until, route-next)
 

@@ -10,7 +10,7 @@ use Rattle.csl.specs.Formula.{Formula, always, label, negated, both, chance, un
 use Rattle.csl.specs.Grammar.{Found, nothing, found, andThen, single, pair, Head, truth, name, bang, ampersand, chances, other, headOf, state, readState}
 use Rattle.grammar.specs.Left.{Leaves, left, last-length}
 use Rattle.grammar.specs.Fixed.{read, read-next, read-leaves}
-use Rattle.grammar.specs.declared.course.Course.the-variants.{Until, Next, Missing}
+use Rattle.grammar.specs.declared.path_start.PathStart.the-variants.{Until, Next, Missing}
 use Rattle.formula.specs.Nodes.{node, blank}
 use Rattle.formula.specs.declared.nodes.Node.{Node}
 use Rattle.formula.specs.Listed.{kindHeld, listed, listedIn, stored}

@@ -13,9 +13,9 @@ use Rattle.grammar.specs.Fixed.{read, read-leaves}
 use Rattle.texts.specs.Cut.{rest-is}
 use Rattle.texts.specs.Behind.{afterPart}
 use Rattle.grammar.specs.Tokens.{tokens, bytesOf, last-behind, one-within, two-within, one-tail, two-tail}
-use Rattle.grammar.specs.Course.{courseOf, path-course}
-use Rattle.grammar.specs.declared.course.Course.{Course}
-use Rattle.grammar.specs.declared.course.Course.the-variants as course
+use Rattle.grammar.specs.PathStart.{pathStartOf, path-by-start}
+use Rattle.grammar.specs.declared.path_start.PathStart.{PathStart}
+use Rattle.grammar.specs.declared.path_start.PathStart.the-variants as start
 use Rattle.formula.specs.Size.{sizeOf, overOne, overTwo, SizeFits}
 use Rattle.formula.specs.declared.size.Size.{Size}
 use Rattle.formula.specs.declared.size.Size.the-variants.{Read, Wrong}
@@ -134,21 +134,21 @@ module _ (s : Text) (a : Size) (is : Stated s a) where
   single-one r q = (q ∙ rw (is .0) (sym (over-single negated not-counted (tokens s))), rw q (fits-one a _ (is .1)))
 
 -- h is what the rest s begins with
-module _ (s : Text) (h : Course) (is : h ≡ courseOf (tokens s)) where
-  pub path-wrong : h ≡ course.Missing → Pathed s Wrong
-  path-wrong e = (λ c p. rw (path-course, ← is, e), omega arith)
+module _ (s : Text) (h : PathStart) (is : h ≡ pathStartOf (tokens s)) where
+  pub path-wrong : h ≡ start.Missing → Pathed s Wrong
+  path-wrong e = (λ c p. rw (path-by-start, ← is, e), omega arith)
 
-  pub path-until : (t : ℕ) (u : Text) (r : Size) → h ≡ course.Until t → u ≡ afterPart space (afterPart space s) → Paired u r → Pathed s r
+  pub path-until : (t : ℕ) (u : Text) (r : Size) → h ≡ start.Until t → u ≡ afterPart space (afterPart space s) → Paired u r → Pathed s r
   unfolding pair
   path-until t u r e v q = (
-    λ c p. rw (path-course, ← is, e, two-tail s u v)
+    λ c p. rw (path-by-start, ← is, e, two-tail s u v)
         (q .0 ∙ sym (over-both (λ a b. chance c p (until t a b)) (until-counted c p t) (read (tokens u)))),
     fits-wider r _ _ (q .1) (omega (arith, two-within s u v)),
   )
 
-  pub path-next : (u : Text) (r : Size) → h ≡ course.Next → u ≡ afterPart space s → Singled u r → Pathed s r
+  pub path-next : (u : Text) (r : Size) → h ≡ start.Next → u ≡ afterPart space s → Singled u r → Pathed s r
   path-next u r e v q = (
-    λ c p. rw (path-course, ← is, e, one-tail s u v)
+    λ c p. rw (path-by-start, ← is, e, one-tail s u v)
         (q .0 ∙ over-single negated not-counted (tokens u) ∙ sym (over-single (λ a. chance c p (nextMove a)) (next-counted c p) (tokens u))),
     fits-wider r _ _ (q .1) (omega (arith, one-within s u v)),
   )

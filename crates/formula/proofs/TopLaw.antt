@@ -9,13 +9,13 @@ use Rattle.csl.specs.Formula.{Comparison}
 use Rattle.csl.specs.Grammar.{nothing, Reader, comparisonOf, numberOf, chances, state}
 use Rattle.formula.specs.Laying.{behindTwo}
 use Rattle.grammar.specs.Then.{comparison-then, number-then}
-use Rattle.grammar.specs.Course.{courseOf, behindCourse, courseThen, path-course}
-use Rattle.grammar.specs.declared.course.Course.{Course}
+use Rattle.grammar.specs.PathStart.{pathStartOf, behindStart, startThen, path-by-start}
+use Rattle.grammar.specs.declared.path_start.PathStart.{PathStart}
 
 pub data ChanceAt (ts : List Text) : Type 0 where
   broken : ((r : Reader) (w : Text) → state r w chances ts ≡ nothing) → ChanceAt ts
-  bounded : (c : Comparison) (p : ℕ) (h : Course)
-      → ((r : Reader) (w : Text) → state r w chances ts ≡ courseThen h r c p (behindCourse h (behindTwo ts))) → ChanceAt ts
+  bounded : (c : Comparison) (p : ℕ) (h : PathStart)
+      → ((r : Reader) (w : Text) → state r w chances ts ≡ startThen h r c p (behindStart h (behindTwo ts))) → ChanceAt ts
 
 pub chance-at : (ts : List Text) → ChanceAt ts
 unfolding state
@@ -25,4 +25,4 @@ chance-at ts = go (comparisonOf (headD ts [])) refl (numberOf (headD (tail ts) [
     go none a m b = broken λ r w. rw (comparison-then, a)
     go (some c) a none b = broken λ r w. rw (comparison-then, a, number-then, b)
     go (some c) a (some p) b =
-        bounded c p (courseOf (behindTwo ts)) λ r w. rw (comparison-then, a, number-then, b) (path-course r c p (behindTwo ts))
+        bounded c p (pathStartOf (behindTwo ts)) λ r w. rw (comparison-then, a, number-then, b) (path-by-start r c p (behindTwo ts))

@@ -9,8 +9,8 @@ use crate::size;
 use crate::size::Size;
 use crate::waiting;
 use grammar::Bound;
-use grammar::Course;
 use grammar::Head;
+use grammar::PathStart;
 ghost use mathlib.Core.Path.{_≡_};
 ghost use Prim.Native.Nat.{_≤_, _-_, suc};
 ghost use Rattle.csl.specs.Limits.{mostNodes};
@@ -66,14 +66,14 @@ fn second_nodes(s: &[u8]) -> usize
 fn read_path(s: &[u8], i: usize) -> Route
     ensures { λ r. ⌜ RouteRead i (tokens (now (s .entry))) r ⌝ }
 {
-    match grammar::read_course(s) {
-        Course::Missing => Route::Missing,
-        Course::Until(hundredths) => Route::Is(Path::Until {
+    match grammar::read_path_start(s) {
+        PathStart::Missing => Route::Missing,
+        PathStart::Until(hundredths) => Route::Is(Path::Until {
             hundredths: hundredths,
             first: before(i, second_nodes(grammar::after_two(s))),
             second: before(i, 0),
         }),
-        Course::Next => Route::Is(Path::Next(before(i, 0))),
+        PathStart::Next => Route::Is(Path::Next(before(i, 0))),
     }
 }
 

@@ -1,7 +1,7 @@
 // Whether a text spells a formula, and how large it is: a reader that keeps nothing but counts, for texts of any depth.
 use grammar::Bound;
-use grammar::Course;
 use grammar::Head;
+use grammar::PathStart;
 ghost use mathlib.Core.Path.{_≡_};
 ghost use Prim.Native.Nat.{ℕ, _+_, _-_, _*_, _≤_, max};
 ghost use lib.ListN.{length};
@@ -145,10 +145,10 @@ fn size_path(s: &[u8]) -> Size
     ensures { λ r. ⌜ ((c : Comparison) → (p : ℕ) → r ≡ sizeOf (path read c p (tokens (now (s .entry))))) ⌝ }
     ensures within { λ r. ⌜ SizeFits r (2 + length (now (s .entry))) ⌝ }
 {
-    match grammar::read_course(s) {
-        Course::Missing => Size::Wrong,
-        Course::Until(_) => size_pair(grammar::after_two(s)),
-        Course::Next => size_single(texts::after(s, b' ')),
+    match grammar::read_path_start(s) {
+        PathStart::Missing => Size::Wrong,
+        PathStart::Until(_) => size_pair(grammar::after_two(s)),
+        PathStart::Next => size_single(texts::after(s, b' ')),
     }
 }
 

@@ -5,4 +5,4 @@ pub mod SignLaw
 pub mod AmountLaw
 pub mod BoundLaw
 pub mod HoursLaw
-pub mod CourseLaw
+pub mod PathStartLaw

@@ -5,4 +5,4 @@ pub mod Then
 pub mod Tokens
 pub mod Head
 pub mod Chance
-pub mod Course
+pub mod PathStart

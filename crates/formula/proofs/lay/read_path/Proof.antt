@@ -4,8 +4,8 @@ use borrow.Author.Needs.{needs}
 use Rattle.formula.proofs.lay.read_path.Statement.{statement}
 use Rattle.formula.proofs.lay.read_path.Tie as tie
 
-read-course-requires : tie.Need-read-course-requires
-read-course-requires c κs = search needs
+read-path-start-requires : tie.Need-read-path-start-requires
+read-path-start-requires c κs = search needs
 
 enum-told : tie.Need-enum-told
 enum-told c = search needs
@@ -44,7 +44,7 @@ pub read-path-spec : {M : Type 1} → statement M
 read-path-spec =
     tie.close
     (tie.spec
-    read-course-requires
+    read-path-start-requires
     enum-told
     enum-known-hundredths
     after-two-requires

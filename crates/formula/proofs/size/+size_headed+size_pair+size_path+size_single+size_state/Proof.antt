@@ -27,7 +27,7 @@ use Rattle.formula.proofs.size.+size_headed+size_pair+size_path+size_si
 use Rattle.formula.proofs.size.over_one.Reads as over-one-reads
 use Rattle.formula.proofs.size.over_two.Reads as over-two-reads
 use Rattle.grammar.proofs.read_bound.Reads as read-bound-reads
-use Rattle.grammar.proofs.read_course.Reads as read-course-reads
+use Rattle.grammar.proofs.read_path_start.Reads as read-path-start-reads
 use Rattle.grammar.proofs.after_two.Reads as after-two-reads
 use Rattle.grammar.proofs.read_head.Reads as read-head-reads
 use Rattle.texts.proofs.after.Reads as after-reads
@@ -114,8 +114,8 @@ calls-size-pair t = (
 
 abbrev calls-size-path : (t : ℕ) → size-path-lts.Claims
 calls-size-path t = (
-  read-course-reads.Asked,
-  read-course-reads.Learnt,
+  read-path-start-reads.Asked,
+  read-path-start-reads.Learnt,
   after-two-reads.Asked,
   after-two-reads.Learnt,
   size-pair-below t,
@@ -261,8 +261,8 @@ size-pair-returns-2 t c =
     let first = left .before .before in
     pair-two _ _ (first .size-state .ensures) _ _ _ (left .left .given .1) _ (second .size-state2 .ensures) _ (c .over-two .ensures)
 
-size-path-read-course-requires : (t : ℕ) → size-path-lts.Need-read-course-requires (calls-size-path t) (size-path-at t) size-path.Post
-size-path-read-course-requires t c κs = search needs
+size-path-read-path-start-requires : (t : ℕ) → size-path-lts.Need-read-path-start-requires (calls-size-path t) (size-path-at t) size-path.Post
+size-path-read-path-start-requires t c κs = search needs
 
 size-path-enum-told : (t : ℕ) → size-path-lts.Need-enum-told (calls-size-path t) (size-path-at t) size-path.Post
 size-path-enum-told t c = search needs
@@ -286,17 +286,17 @@ size-path-size-single-requires : (t : ℕ) → size-path-lts.Need-size-single-re
 size-path-size-single-requires t c κs = (omega (arith, one-within _ _ (c .after .ensures)), tt)
 
 size-path-returns : (t : ℕ) → size-path-lts.Need-returns (calls-size-path t) (size-path-at t) size-path.Post
-size-path-returns t c = path-wrong _ _ (c .before .before .read-course .ensures) (c .enum-told .given .1)
+size-path-returns t c = path-wrong _ _ (c .before .before .read-path-start .ensures) (c .enum-told .given .1)
 
 size-path-returns-2 : (t : ℕ) → size-path-lts.Need-returns-2 (calls-size-path t) (size-path-at t) size-path.Post
 size-path-returns-2 t c =
-    let course = c .before .before .before .before .read-course .ensures in
-    path-until _ _ course _ _ _ (c .before .before .enum-told2 .given .1) (c .before .after-two .ensures) (c .size-pair .ensures)
+    let start = c .before .before .before .before .read-path-start .ensures in
+    path-until _ _ start _ _ _ (c .before .before .enum-told2 .given .1) (c .before .after-two .ensures) (c .size-pair .ensures)
 
 size-path-returns-3 : (t : ℕ) → size-path-lts.Need-returns-3 (calls-size-path t) (size-path-at t) size-path.Post
 size-path-returns-3 t c =
-    let course = c .before .before .before .before .read-course .ensures in
-    path-next _ _ course _ _ (c .before .before .enum-told3 .given .1) (c .before .after .ensures) (c .size-single .ensures)
+    let start = c .before .before .before .before .read-path-start .ensures in
+    path-next _ _ start _ _ (c .before .before .enum-told3 .given .1) (c .before .after .ensures) (c .size-single .ensures)
 
 size-single-size-state-requires : (t : ℕ) → size-single-lts.Need-size-state-requires (calls-size-single t) (size-single-at t) size-single.Post
 size-single-size-state-requires t c κs = search needs
@@ -384,8 +384,8 @@ pub +size-headed+size-pair+size-path+size-single+size-state-spec : {M : Type 1} 
     (size-pair-returns t)
     (size-pair-returns-2 t))
     (λ t. size-path-lts.spec (
-      read-course-reads.Asked,
-      read-course-reads.Learnt,
+      read-path-start-reads.Asked,
+      read-path-start-reads.Learnt,
       after-two-reads.Asked,
       after-two-reads.Learnt,
       size-pair-below t,
@@ -397,7 +397,7 @@ pub +size-headed+size-pair+size-path+size-single+size-state-spec : {M : Type 1} 
     )
     (size-path-at t)
     size-path.Post
-    (size-path-read-course-requires t)
+    (size-path-read-path-start-requires t)
     (size-path-enum-told t)
     (size-path-enum-told-2 t)
     (size-path-after-two-requires t)

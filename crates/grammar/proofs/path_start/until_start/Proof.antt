@@ -1,8 +1,8 @@
--- `until_course` meets its contract, by the laws of `CourseLaw`. Assumes nothing.
-use Rattle.grammar.proofs.CourseLaw.{course-laws}
+-- `until_start` meets its contract, by the laws of `PathStartLaw`. Assumes nothing.
+use Rattle.grammar.proofs.PathStartLaw.{path-start-laws}
 use borrow.Author.Needs.{needs}
-use Rattle.grammar.proofs.course.until_course.Statement.{statement}
-use Rattle.grammar.proofs.course.until_course.Tie as tie
+use Rattle.grammar.proofs.path_start.until_start.Statement.{statement}
+use Rattle.grammar.proofs.path_start.until_start.Tie as tie
 
 part-requires : tie.Need-part-requires
 part-requires c κs = search needs
@@ -17,13 +17,13 @@ enum-known-hundredths : tie.Need-enum-known-hundredths
 enum-known-hundredths c = search needs
 
 returns : tie.Need-returns
-returns c = search (needs, course-laws)
+returns c = search (needs, path-start-laws)
 
 returns-2 : tie.Need-returns-2
-returns-2 c = search (needs, course-laws)
+returns-2 c = search (needs, path-start-laws)
 
-pub until-course-spec : {M : Type 1} → statement M
-until-course-spec =
+pub until-start-spec : {M : Type 1} → statement M
+until-start-spec =
     tie.close
     (tie.spec
     part-requires

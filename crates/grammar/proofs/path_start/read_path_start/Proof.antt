@@ -1,8 +1,8 @@
--- `read_course` meets its contract, by the laws of `CourseLaw`: the tests in their order. Assumes nothing.
-use Rattle.grammar.proofs.CourseLaw.{course-laws}
+-- `read_path_start` meets its contract, by the laws of `PathStartLaw`: the tests in their order. Assumes nothing.
+use Rattle.grammar.proofs.PathStartLaw.{path-start-laws}
 use borrow.Author.Needs.{needs}
-use Rattle.grammar.proofs.course.read_course.Statement.{statement}
-use Rattle.grammar.proofs.course.read_course.Tie as tie
+use Rattle.grammar.proofs.path_start.read_path_start.Statement.{statement}
+use Rattle.grammar.proofs.path_start.read_path_start.Tie as tie
 
 part-requires : tie.Need-part-requires
 part-requires c κs = search needs
@@ -16,11 +16,11 @@ same-requires c κs = search needs
 after-requires : tie.Need-after-requires
 after-requires c κs = search needs
 
-until-course-requires : tie.Need-until-course-requires
-until-course-requires c κs = search needs
+until-start-requires : tie.Need-until-start-requires
+until-start-requires c κs = search needs
 
 returns : tie.Need-returns
-returns c = search (needs, course-laws)
+returns c = search (needs, path-start-laws)
 
 slice-aggregate-same-2 : tie.Need-slice-aggregate-same-2
 slice-aggregate-same-2 c = search needs
@@ -29,20 +29,20 @@ same-requires-2 : tie.Need-same-requires-2
 same-requires-2 c κs = search needs
 
 returns-2 : tie.Need-returns-2
-returns-2 c = search (needs, course-laws)
+returns-2 c = search (needs, path-start-laws)
 
 returns-3 : tie.Need-returns-3
-returns-3 c = search (needs, course-laws)
+returns-3 c = search (needs, path-start-laws)
 
-pub read-course-spec : {M : Type 1} → statement M
-read-course-spec =
+pub read-path-start-spec : {M : Type 1} → statement M
+read-path-start-spec =
     tie.close
     (tie.spec
     part-requires
     slice-aggregate-same
     same-requires
     after-requires
-    until-course-requires
+    until-start-requires
     returns
     slice-aggregate-same-2
     same-requires-2
