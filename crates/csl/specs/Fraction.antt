@@ -14,12 +14,12 @@ frac a b = record { top = a; bottom = b }
 abbrev pub IsFraction : Fraction → Type 0
 IsFraction x = 0 < x .bottom
 
--- at most, less, and equal, by cross products
+-- at most, less than, and equal, by cross products
 abbrev pub Below : Fraction → Fraction → Type 0
 Below x y = x .top * y .bottom ≤ y .top * x .bottom
 
-abbrev pub Beneath : Fraction → Fraction → Type 0
-Beneath x y = x .top * y .bottom < y .top * x .bottom
+abbrev pub StrictlyBelow : Fraction → Fraction → Type 0
+StrictlyBelow x y = x .top * y .bottom < y .top * x .bottom
 
 abbrev pub Same : Fraction → Fraction → Type 0
 Same x y = x .top * y .bottom ≡ y .top * x .bottom

@@ -2,7 +2,7 @@
 -- takes away on one side stands added on the other. Assumes nothing.
 use Prim.Native.Nat.{ℕ, _≤_}
 use Rattle.csl.specs.Formula.{Comparison, Less, AtMost, AtLeast, More}
-use Rattle.csl.specs.Fraction.{Fraction, Below, Beneath, plus, billionths, part}
+use Rattle.csl.specs.Fraction.{Fraction, Below, StrictlyBelow, plus, billionths, part}
 
 pub data Value : Type 0 where
   -- "the exact fraction"
@@ -41,9 +41,9 @@ LimitIs More p In = ForSome λ m. In λ y. Below (plus (billionths p) (part m)) 
 -- "For `X` the truth tables compare the exact fraction with the threshold."
 abbrev pub FractionIs : Comparison → ℕ → Fraction → Type 0
 FractionIs AtLeast p x = Below (billionths p) x
-FractionIs Less p x = Beneath x (billionths p)
+FractionIs Less p x = StrictlyBelow x (billionths p)
 FractionIs AtMost p x = Below x (billionths p)
-FractionIs More p x = Beneath (billionths p) x
+FractionIs More p x = StrictlyBelow (billionths p) x
 
 abbrev pub Holds : Comparison → ℕ → Value → Type 0
 Holds r p (exact x) = FractionIs r p x

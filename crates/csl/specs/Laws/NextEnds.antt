@@ -1,4 +1,4 @@
--- The two ends of the next move keep every rule of ends, and no other two do. Assumes nothing.
+-- The two ends of the next move keep every rule of ends. Assumes nothing.
 use mathlib.Core.Path.{_≡_, refl, sym}
 use Prim.Native.Nat.{ℕ}
 use native.Mathlib.Omega.{arith}
