@@ -3,6 +3,7 @@ from collections import namedtuple
 
 import sheets
 from measuring import balls_agree, doubles_agree, width
+from ordering import at_most, out_of_order
 from reckoning.chain import depth
 from restarts import exact
 
@@ -13,6 +14,7 @@ LEAST_UNDER_BALLS = 60
 LEAST_UNDER_DOTS = 30                   # a goal and no bar
 MOST_OVER_UNTILS = 1.3
 JUDGED_DEPTH = depth(sheets.HOURS[-1])  # the whole job is judged at this depth, and told of the others
+MOST_OF_JOB = 0.05                      # of a whole job, for the order of its states
 MOST_RESIDENT = 4096                    # KB
 MOST_WIDTH = 2                          # billionths
 
@@ -79,10 +81,22 @@ def of_restarts(asked):
     yield Bar("an until's ends the same with restarts as without", "yes" if same else "no", same, True)
 
 
-def bars(rows, others, footprints, asked):
+def of_orders(orderings, rows):
+    """That each order is right, and what the order costs of the longest job of as many states: ends out of order, and all of it at most."""
+    right = all(ordering.right for ordering in orderings)
+    yield Bar("orders those of the second reckoning", "yes" if right else "no", right, True)
+    for told_as, cost, judged in (("ends out of order cost", out_of_order, True), ("the order takes", at_most, False)):
+        shares = [cost(ordering) / row.job for ordering in orderings for row in rows
+                  if row.sheet.states == ordering.states and row.depth == JUDGED_DEPTH]
+        yield Bar(f"{told_as} at most {100 * MOST_OF_JOB:.0f} % of the whole job at depth {JUDGED_DEPTH}",
+                  f"{100 * min(shares):.1f} % to {100 * max(shares):.1f} %", max(shares) <= MOST_OF_JOB, judged)
+
+
+def bars(rows, others, footprints, asked, orderings):
     """All bars; `others` are rows of other shapes, where the whole job is not held against its until, `asked` those with restarts."""
     every = rows + others
-    return [*over_doubles(every), *under_balls(every), *over_untils(rows), *of_footprints(footprints), *of_answers(every), *of_restarts(asked)]
+    return [*over_doubles(every), *under_balls(every), *over_untils(rows), *of_orders(orderings, rows), *of_footprints(footprints),
+            *of_answers(every), *of_restarts(asked)]
 
 
 def told(bar):

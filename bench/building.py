@@ -42,6 +42,7 @@ def build():
     built = [
         compile_c("doubles", ["doubles.c", "sheet.c"]),
         compile_c("job", ["job.c"], ARCHIVE),
+        compile_c("short", ["job.c"], "-DBENCH_SHORT", ARCHIVE),
         compile_c("within", ["within.c"]),
     ]
     if not all(built):

@@ -1,8 +1,10 @@
 /* A whole job by the library: three texts in, a report out.
  *
  * usage: job FOLDER FORMULA MILLISECONDS
- * Prints the least time of a job in nanoseconds, its depth, then the two ends of each state in billionths. The texts are in memory before
- * the time is taken; reading them as texts is part of it. */
+ * Prints the least time of a job in nanoseconds, its depth, the order of the states, then the two ends of each state in billionths. The texts
+ * are in memory before the time is taken; reading them as texts is part of it.
+ *
+ * With BENCH_SHORT defined it lends no order buffer, so that the job is refused with 15, and prints the time of that. */
 #include "../library/sebdyqul.h"
 #include "clock.h"
 
@@ -11,6 +13,13 @@
 #include <string.h>
 
 enum { TEXT = 61440 };
+
+/* How long an order buffer is lent, and what is answered then. */
+#ifdef BENCH_SHORT
+enum { ORDER = 0, ANSWER = 15 };
+#else
+enum { ORDER = SEBDYQUL_RESULTS, ANSWER = 0 };
+#endif
 
 /* A text and its bytes. */
 struct text {
@@ -23,9 +32,10 @@ struct job {
     struct text moves, labels, formula;
     uint32_t lower[SEBDYQUL_RESULTS], upper[SEBDYQUL_RESULTS];
     uint8_t verdicts[SEBDYQUL_RESULTS];
+    uint16_t order[SEBDYQUL_RESULTS];
     uint64_t words[SEBDYQUL_WORDS], vectors[SEBDYQUL_VECTORS];
     uint8_t marks[SEBDYQUL_MARKS];
-    uint64_t depth, refused;
+    uint64_t depth, answer;
 };
 
 /* Reads a file of the folder. */
@@ -50,9 +60,9 @@ static void set_formula(struct text *text, const char *formula) {
 /* The measured work. */
 static void run(void *data) {
     struct job *job = data;
-    job->refused = sebdyqul_check(
+    job->answer = sebdyqul_check(
         job->moves.bytes, job->moves.length, job->labels.bytes, job->labels.length, job->formula.bytes, job->formula.length,
-        job->lower, SEBDYQUL_RESULTS, job->upper, SEBDYQUL_RESULTS, job->verdicts, SEBDYQUL_RESULTS,
+        job->lower, SEBDYQUL_RESULTS, job->upper, SEBDYQUL_RESULTS, job->verdicts, SEBDYQUL_RESULTS, job->order, ORDER,
         job->words, SEBDYQUL_WORDS, job->vectors, SEBDYQUL_VECTORS, job->marks, SEBDYQUL_MARKS, &job->depth);
 }
 
@@ -62,6 +72,16 @@ static int states_of(const struct text *labels) {
     for (size_t i = 0; i < labels->length; i++)
         lines += labels->bytes[i] == '\n';
     return lines - 1;
+}
+
+/* Prints the depth, the order and the ends of an accepted job. */
+static void print_report(const struct job *job) {
+    int states = states_of(&job->labels);
+    printf("%d\n", (int)job->depth);
+    for (int place = 0; place < states; place++)
+        printf(place + 1 < states ? "%d " : "%d\n", (int)job->order[place]);
+    for (int s = 0; s < states; s++)
+        printf("%u %u\n", (unsigned)job->lower[s], (unsigned)job->upper[s]);
 }
 
 /* Reads the texts, takes the time of the job and prints its report. */
@@ -75,12 +95,12 @@ int main(int count, char **words) {
     read_text(&job.labels, words[1], "labels.txt");
     set_formula(&job.formula, words[2]);
     double least = least_ns(run, &job, atof(words[3]));
-    if (job.refused != 0) {
-        fprintf(stderr, "job: refused with %d\n", (int)job.refused);
+    if (job.answer != ANSWER) {
+        fprintf(stderr, "job: answered %d\n", (int)job.answer);
         return 2;
     }
-    printf("%.0f\n%d\n", least, (int)job.depth);
-    for (int s = 0; s < states_of(&job.labels); s++)
-        printf("%u %u\n", (unsigned)job.lower[s], (unsigned)job.upper[s]);
+    printf("%.0f\n", least);
+    if (job.answer == 0)
+        print_report(&job);
     return 0;
 }

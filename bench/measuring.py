@@ -6,7 +6,7 @@ import sheets
 from building import PLACE
 from reckoning.limits import BILLION
 
-MILLISECONDS = {"doubles": 20, "balls": 40, "job": 40}      # how long a program repeats its work in each round
+MILLISECONDS = {"doubles": 20, "balls": 40, "job": 40, "short": 40}     # how long a program repeats its work in each round
 READING = "tt"                                              # the formula of a job that reads and prepares alone
 WAYS = ["products", "dot"]                                  # in which balls are added up
 
@@ -17,6 +17,10 @@ Question = namedtuple("Question", "sheet hours")
 # reading alone, `again` half of what a job with three untils takes longer than one. `ends` are those of each state in billionths;
 # `by_doubles` and `by_balls` are the answers that they are held against.
 Row = namedtuple("Row", "sheet depth doubles balls dot engine again reading job three ends by_doubles by_balls")
+
+
+# What `job` prints below the time: the depth, the state numbers in order, and the ends of each state.
+Report = namedtuple("Report", "depth order ends")
 
 
 class Times:
@@ -52,6 +56,12 @@ def pairs(lines):
     return [tuple(map(int, line.split())) for line in lines]
 
 
+def report_of(lines):
+    """The report that `job` printed."""
+    depth, order, *ends = lines
+    return Report(int(depth), list(map(int, order.split())), pairs(ends))
+
+
 def row_of(times, question, arb):
     """The row of a question from the times taken."""
     sheet, hours = question
@@ -60,9 +70,9 @@ def row_of(times, question, arb):
     doubles = ("doubles", sheet.folder, hours)
     ways = [("balls", way, sheet.folder, hours) for way in WAYS]
     balls, dot = (times.least[way] if arb else None for way in ways)
-    depth, *ends = times.printed[asked[1]]
-    return Row(sheet, int(depth), times.least[doubles], balls, dot, job - reading, (three - job) / 2, reading, job, three,
-               pairs(ends), [BILLION * float(line) for line in times.printed[doubles]],
+    depth, _, ends = report_of(times.printed[asked[1]])
+    return Row(sheet, depth, times.least[doubles], balls, dot, job - reading, (three - job) / 2, reading, job, three,
+               ends, [BILLION * float(line) for line in times.printed[doubles]],
                [pairs(times.printed[way]) for way in ways] if arb else None)
 
 

@@ -2,7 +2,7 @@
 from collections import namedtuple
 
 import sheets
-from measuring import READING, Times, pairs
+from measuring import READING, Times, report_of
 from reckoning.__main__ import read_texts
 from reckoning.backing import near_operands
 from reckoning.ends import Rules
@@ -29,8 +29,7 @@ def measure_restarts(pair, rounds):
 def asked_of(times, sheet, formula):
     """What was taken of one formula and one sheet."""
     reading, job = ("job", sheet.folder, READING), ("job", sheet.folder, formula)
-    _, *ends = times.printed[job]
-    return Asked(sheet, formula, times.least[reading], times.least[job], pairs(ends))
+    return Asked(sheet, formula, times.least[reading], times.least[job], report_of(times.printed[job]).ends)
 
 
 def exact(asked):

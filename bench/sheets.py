@@ -4,7 +4,8 @@ from collections import namedtuple
 
 from reckoning.__main__ import FILES
 from reckoning.limits import MOST_LEVELS, MOST_MOVES, MOST_STATES, RATE_HOURS
-from reckoning.sheets import labels_text, moves_text
+from reckoning.sheets import NO_MOVES, labels_text, moves_text
+from tests.orders import shares_job
 
 TOP_RATE = RATE_HOURS                   # the greatest exit rate of every sheet: the load of an until over t hours is t
 HOURS = [1, 32, 64]                     # loads, and so depths 42, 104 and 168
@@ -44,10 +45,27 @@ def write(folder, states, per_state, restarts=False):
         moves = sorted(moves + [(state, state, RESTART_RATE) for state in range(states)])
     assert len(moves) <= MOST_MOVES
     marks = [(state not in dead, state in dead) for state in range(states)]
+    return written(folder, moves_text(moves), labels_text([b"up", b"dead"], marks))
+
+
+def write_shares(folder, shares):
+    """Writes a sheet whose states move to a last one, `dead`, with these shares of their moves, in thousandths."""
+    moves, labels, _ = shares_job(shares)
+    return written(folder, moves, labels)
+
+
+def write_bare(folder, states):
+    """Writes a sheet with so many states, no labels and no moves."""
+    return written(folder, NO_MOVES, labels_text([], [[]] * states))
+
+
+def written(folder, moves, labels):
+    """Writes the two texts of a sheet."""
     folder.mkdir(parents=True, exist_ok=True)
-    for name, text in zip(FILES, (moves_text(moves), labels_text([b"up", b"dead"], marks))):
+    for name, text in zip(FILES, (moves, labels)):
         (folder / name).write_bytes(text)
-    return Sheet(folder, states, len(moves))
+    states, lines = (text.count(b"\n") - 1 for text in (labels, moves))
+    return Sheet(folder, states, lines)
 
 
 def until(hours):

@@ -1,10 +1,12 @@
 """The figures of the bench as text."""
 from growth import slope, steps_made, two_terms
 from measuring import balls_agree, doubles_agree, width
+from ordering import at_most, out_of_order
 
 HEADS = ["states", "moves", "depth", "doubles", "Arb", "Arb dot", "engine", "again", "reading", "job",
          "eng/dbl", "Arb/eng", "dot/eng", "job/until", "3 untils", "widest", "dbl in", "Arb in"]
 RESTART_HEADS = ["formula", "states", "moves", "reading", "job", "job - reading", "ns for each move"]
+ORDER_HEADS = ["states", "falling", "rising", "drawn", "equal", "out of order", "after tests"]
 GROWTH_HEADS = ["states", "moves", "depth", "doubles", "Arb", "engine", "whole job"]
 QUIET = 0.1                             # two ways to one time part by at most this share on a quiet machine
 WORDS = {True: "yes", False: "NO", None: "-"}
@@ -87,6 +89,29 @@ def restart_line(asked):
 def restart_table(rows):
     """Times of the next move and of an until, on a sheet and on the same sheet with restarts."""
     return laid_out(RESTART_HEADS, map(restart_line, rows))
+
+
+def order_line(ordering):
+    """A row of the table of orders."""
+    times = [ordering.times[way] for way in ORDER_HEADS[1:5]]
+    return [str(ordering.states), *map(milliseconds, (*times, out_of_order(ordering), ordering.after))]
+
+
+def order_table(orderings):
+    """Times of a next move whose ends are laid out in four ways, and of what comes after the tests."""
+    return laid_out(ORDER_HEADS, map(order_line, orderings))
+
+
+def order_shares(ordering, rows):
+    """What the order costs, as a share of the whole job of each row that has as many states."""
+    shares = [f"{share(out_of_order(ordering), row)} at depth {row.depth} for ends out of order, less than {share(at_most(ordering), row)} in all"
+              for row in rows if row.sheet.states == ordering.states]
+    return f"the order of {ordering.states} states, of the whole job with one until: " + "; ".join(shares)
+
+
+def share(time, row):
+    """A time as a share of a row's whole job."""
+    return f"{100 * time / row.job:.1f} %"
 
 
 def footprint_line(found):

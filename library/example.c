@@ -19,6 +19,7 @@ struct text {
 /* The three texts, and all that is lent: enough for every job. */
 static struct text moves, labels, formula;
 static uint32_t lower[SEBDYQUL_RESULTS], upper[SEBDYQUL_RESULTS];
+static uint16_t order[SEBDYQUL_RESULTS];
 static uint8_t verdicts[SEBDYQUL_RESULTS], marks[SEBDYQUL_MARKS];
 static uint64_t words[SEBDYQUL_WORDS], vectors[SEBDYQUL_VECTORS];
 
@@ -48,14 +49,29 @@ static size_t states(void)
     return lines - 1;
 }
 
-/* Prints the report that the lent buffers hold. */
-static void print_report(uint64_t depth)
+/* Prints the line of names. */
+static void print_names(void)
+{
+    puts("state,lower,upper,depth,verdict");
+}
+
+/* Prints the line of a state. */
+static void print_row(size_t state, uint64_t depth)
 {
     static const char *const said[] = {[SEBDYQUL_NO] = "no", [SEBDYQUL_YES] = "yes", [SEBDYQUL_UNDECIDED] = "undecided"};
+    printf("%zu,%" PRIu32 ",%" PRIu32 ",%" PRIu64 ",%s\n", state, lower[state], upper[state], depth, said[verdicts[state]]);
+}
+
+/* Prints the report that the lent buffers hold: every state in turn, then the worst first. */
+static void print_report(uint64_t depth)
+{
     size_t count = states();
-    puts("state,lower,upper,depth,verdict");
+    print_names();
     for (size_t state = 0; state < count; state++)
-        printf("%zu,%" PRIu32 ",%" PRIu32 ",%" PRIu64 ",%s\n", state, lower[state], upper[state], depth, said[verdicts[state]]);
+        print_row(state, depth);
+    print_names();
+    for (size_t place = 0; place < count; place++)
+        print_row(order[place], depth);
 }
 
 int main(int count, char **arguments)
@@ -70,7 +86,7 @@ int main(int count, char **arguments)
     uint64_t depth = 0;
     uint64_t number = sebdyqul_check(
         moves.bytes, moves.length, labels.bytes, labels.length, formula.bytes, formula.length,
-        lower, SEBDYQUL_RESULTS, upper, SEBDYQUL_RESULTS, verdicts, SEBDYQUL_RESULTS,
+        lower, SEBDYQUL_RESULTS, upper, SEBDYQUL_RESULTS, verdicts, SEBDYQUL_RESULTS, order, SEBDYQUL_RESULTS,
         words, SEBDYQUL_WORDS, vectors, SEBDYQUL_VECTORS, marks, SEBDYQUL_MARKS, &depth);
     if (number == 0)
         print_report(depth);

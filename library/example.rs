@@ -13,6 +13,7 @@ struct Buffers {
     lower: [u32; RESULTS],
     upper: [u32; RESULTS],
     verdicts: [u8; RESULTS],
+    order: [u16; RESULTS],
     words: Vec<u64>,
     vectors: Vec<u64>,
     marks: Vec<u8>,
@@ -24,6 +25,7 @@ impl Buffers {
             lower: [0; RESULTS],
             upper: [0; RESULTS],
             verdicts: [0; RESULTS],
+            order: [0; RESULTS],
             words: vec![0; WORDS],
             vectors: vec![0; VECTORS],
             marks: vec![0; MARKS],
@@ -35,6 +37,7 @@ impl Buffers {
             lower: &mut self.lower,
             upper: &mut self.upper,
             verdicts: &mut self.verdicts,
+            order: &mut self.order,
             words: &mut self.words,
             vectors: &mut self.vectors,
             marks: &mut self.marks,
@@ -62,14 +65,20 @@ fn word(verdict: u8) -> &'static str {
     }
 }
 
-/// Prints the report that the buffers hold.
-fn print_report(out: &mut impl Write, buffers: &Buffers, states: usize, depth: u64) -> Result<()> {
+/// Prints the line of names, then the lines of these states.
+fn print_listing(out: &mut impl Write, buffers: &Buffers, states: impl Iterator<Item = usize>, depth: u64) -> Result<()> {
     writeln!(out, "state,lower,upper,depth,verdict")?;
-    for state in 0..states {
+    for state in states {
         let (lower, upper) = (buffers.lower[state], buffers.upper[state]);
         writeln!(out, "{state},{lower},{upper},{depth},{}", word(buffers.verdicts[state]))?;
     }
     Ok(())
+}
+
+/// Prints the report that the buffers hold: every state in turn, then the worst first.
+fn print_report(out: &mut impl Write, buffers: &Buffers, states: usize, depth: u64) -> Result<()> {
+    print_listing(out, buffers, 0..states, depth)?;
+    print_listing(out, buffers, buffers.order[..states].iter().map(|&state| state.into()), depth)
 }
 
 fn main() -> Result<()> {

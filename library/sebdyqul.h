@@ -6,7 +6,7 @@
  *
  * Proved of it (crates/sebdyqul): for all bytes of the texts and all lengths it does what document 01 says, with those requests of
  * document 02 that docs/REQUESTS.md lists. Nothing checks the caller: each pointer leads to as many elements as the length after it
- * says, is not null (any address does for a length of 0) and is aligned for its type, and none of the seven that are written to overlaps
+ * says, is not null (any address does for a length of 0) and is aligned for its type, and none of the eight that are written to overlaps
  * another or a text.
  */
 #ifndef SEBDYQUL_H
@@ -19,8 +19,8 @@
 extern "C" {
 #endif
 
-/* Lengths that are enough for every job. Of a job with n states, m move lines and k nodes in its formula the results need n elements
- * each, the words m, the vectors 10 * n + 512 and the marks k * n; with less it is refused with 15. */
+/* Lengths that are enough for every job. Of a job with n states, m move lines and k nodes in its formula the results (lower, upper,
+ * verdicts and order) need n elements each, the words m, the vectors 10 * n + 512 and the marks k * n; with less it is refused with 15. */
 #define SEBDYQUL_RESULTS 512
 #define SEBDYQUL_WORDS 4096
 #define SEBDYQUL_VECTORS 5632
@@ -31,9 +31,10 @@ enum sebdyqul_verdict { SEBDYQUL_NO = 0, SEBDYQUL_YES = 1, SEBDYQUL_UNDECIDED = 
 
 /* Checks a job: a moves text, a labels text and a formula, as bytes.
  *
- * Answers 0 where the job is accepted. Then `lower`, `upper` (billionths) and `verdicts` hold the report in their first n elements, `*depth`
- * is the depth that its lines show (0 where the outermost node is no until), and the named lengths of `words`, `vectors` and `marks` hold 0;
- * nothing beyond them has changed.
+ * Answers 0 where the job is accepted. Then `lower`, `upper` (billionths) and `verdicts` hold the report in their first n elements, `order`
+ * holds in its first n the state numbers, the worst first: by falling lower end, equal ones by rising number. `*depth` is the depth that the
+ * report's lines show (0 where the outermost node is no until), and the named lengths of `words`, `vectors` and `marks` hold 0; nothing
+ * beyond them has changed.
  *
  * Answers with the number of the refusal, 1 to 15 but never 7, otherwise. Then nothing has changed. */
 uint64_t sebdyqul_check(
@@ -43,6 +44,7 @@ uint64_t sebdyqul_check(
     uint32_t *lower, size_t lower_length,
     uint32_t *upper, size_t upper_length,
     uint8_t *verdicts, size_t verdicts_length,
+    uint16_t *order, size_t order_length,
     uint64_t *words, size_t words_length,
     uint64_t *vectors, size_t vectors_length,
     uint8_t *marks, size_t marks_length,

@@ -3,8 +3,8 @@
 //! Slices and exclusive borrows are all that the header asks of a caller: each leads to as many elements as it has, is aligned, and none
 //! that is written to overlaps another. So no call of `check` can be a wrong one.
 
-/// Lengths that are enough for every job. A job with n states, m move lines and k nodes in its formula needs n results, m words,
-/// 10 × n + 512 vectors and k × n marks.
+/// Lengths that are enough for every job. A job with n states, m move lines and k nodes in its formula needs n results (lower, upper,
+/// verdicts and order), m words, 10 × n + 512 vectors and k × n marks.
 pub const RESULTS: usize = 512;
 pub const WORDS: usize = 4_096;
 pub const VECTORS: usize = 5_632;
@@ -20,6 +20,7 @@ pub struct Lent<'a> {
     pub lower: &'a mut [u32],
     pub upper: &'a mut [u32],
     pub verdicts: &'a mut [u8],
+    pub order: &'a mut [u16],
     pub words: &'a mut [u64],
     pub vectors: &'a mut [u64],
     pub marks: &'a mut [u8],
@@ -28,8 +29,8 @@ pub struct Lent<'a> {
 /// How a job ended.
 #[derive(Clone, Copy, Debug, PartialEq, Eq)]
 pub enum Answer {
-    /// The report is in the first n elements of `lower`, `upper` and `verdicts`; its lines show this depth, 0 where the outermost node
-    /// is no until.
+    /// The report is in the first n elements of `lower`, `upper` and `verdicts`, and in those of `order` are the state numbers, the worst
+    /// first: by falling lower end, equal ones by rising number. The report's lines show this depth, 0 where the outermost node is no until.
     Accepted { depth: u64 },
     /// The number of the refusal, 1 to 15 but never 7. What was lent is as it was.
     Refused(u64),
@@ -43,6 +44,7 @@ extern "C" {
         lower: *mut u32, lower_length: usize,
         upper: *mut u32, upper_length: usize,
         verdicts: *mut u8, verdicts_length: usize,
+        order: *mut u16, order_length: usize,
         words: *mut u64, words_length: usize,
         vectors: *mut u64, vectors_length: usize,
         marks: *mut u8, marks_length: usize,
@@ -63,6 +65,7 @@ pub fn check(moves: &[u8], labels: &[u8], formula: &[u8], lent: Lent<'_>) -> Ans
             lent.lower.as_mut_ptr(), lent.lower.len(),
             lent.upper.as_mut_ptr(), lent.upper.len(),
             lent.verdicts.as_mut_ptr(), lent.verdicts.len(),
+            lent.order.as_mut_ptr(), lent.order.len(),
             lent.words.as_mut_ptr(), lent.words.len(),
             lent.vectors.as_mut_ptr(), lent.vectors.len(),
             lent.marks.as_mut_ptr(), lent.marks.len(),
@@ -81,28 +84,30 @@ mod tests {
 
     /// Two states, one move line, three nodes, and the lengths that these need.
     const JOB: [&[u8]; 3] = [b"from,to,rate\n0,1,500\n", b"state,up,dead\n0,1,0\n1,0,1\n", b"P < 1 U 8.25 up dead\n"];
-    const NEEDED: [usize; 6] = [2, 2, 2, 1, 532, 6];
+    const NEEDED: [usize; 7] = [2, 2, 2, 2, 1, 532, 6];
 
-    /// What the job ends with where so many elements of each buffer are lent.
-    fn answer(lent: [usize; 6]) -> Answer {
+    /// What the job ends with where so many elements of each buffer are lent, and what its order buffer then holds.
+    fn checked(lent: [usize; 7]) -> (Answer, Vec<u16>) {
         let [mut lower, mut upper] = [vec![7; lent[0]], vec![7; lent[1]]];
-        let [mut verdicts, mut marks] = [vec![7; lent[2]], vec![7; lent[5]]];
-        let [mut words, mut vectors] = [vec![7; lent[3]], vec![7; lent[4]]];
+        let [mut verdicts, mut marks] = [vec![7; lent[2]], vec![7; lent[6]]];
+        let mut order = vec![7; lent[3]];
+        let [mut words, mut vectors] = [vec![7; lent[4]], vec![7; lent[5]]];
         let lent = Lent {
             lower: &mut lower,
             upper: &mut upper,
             verdicts: &mut verdicts,
+            order: &mut order,
             words: &mut words,
             vectors: &mut vectors,
             marks: &mut marks,
         };
         let [moves, labels, formula] = JOB;
-        check(moves, labels, formula, lent)
+        (check(moves, labels, formula, lent), order)
     }
 
     #[test]
     fn exactly_what_is_needed_will_do() {
-        assert_eq!(answer(NEEDED), Answer::Accepted { depth: 42 });
+        assert_eq!(checked(NEEDED).0, Answer::Accepted { depth: 42 });
     }
 
     #[test]
@@ -110,7 +115,13 @@ mod tests {
         for at in 0..NEEDED.len() {
             let mut short = NEEDED;
             short[at] -= 1;
-            assert_eq!(answer(short), Answer::Refused(15), "{short:?}");
+            assert_eq!(checked(short).0, Answer::Refused(15), "{short:?}");
         }
+    }
+
+    #[test]
+    fn the_worst_state_stands_first() {
+        assert_eq!(checked([2, 2, 2, 4, 1, 532, 6]).1, [1, 0, 7, 7]);
+        assert_eq!(checked([1, 2, 2, 4, 1, 532, 6]).1, [7; 4]);
     }
 }

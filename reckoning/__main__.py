@@ -1,6 +1,6 @@
 """python3 -m reckoning judge|refusal|ends DIR
 
-judge    reads a print from standard input: `allowed`, or its faults and status 1, or status 2
+judge    reads a print, both listings, from standard input: `allowed`, or its faults and status 1, or status 2
 refusal  the refusal number, or `accepted`
 ends     what the rules leave for the report
 DIR holds moves.txt, labels.txt and formula.txt; a file that cannot be opened counts as empty.

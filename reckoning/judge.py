@@ -16,7 +16,10 @@ Allowed = namedtuple("Allowed", "depth width lower upper verdicts")
 
 
 def judge(moves, labels, formula, printed, lent=None):
-    """The faults of a printed answer; none if it is allowed. May raise backing.TooMany."""
+    """The faults of a printed answer; none if it is allowed. May raise backing.TooMany.
+
+    The second listing follows from the first, so that a wrong one is a fault of the layout, and no row is judged then.
+    """
     job = refusal(moves, labels, formula, lent)
     if isinstance(job, int):
         return [] if printed == refused(job) else [f"should print refused and {job}"]

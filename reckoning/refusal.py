@@ -9,7 +9,7 @@ from .chain import Chain
 from .limits import (FORMULA_BYTES, VECTOR_SPARE, MOST_HUNDREDTHS, MOST_LEVELS, MOST_MOVES, MOST_NODES, MOST_RATE, MOST_RATE_HUNDREDTHS,
                      MOST_STATES, MOST_THRESHOLD, SHEET_BYTES, VECTOR_PLACES)
 
-Lent = namedtuple("Lent", "lower upper verdicts moves vectors marks")
+Lent = namedtuple("Lent", "lower upper verdicts order moves vectors marks")
 
 
 class Job:
@@ -118,17 +118,19 @@ def large_load(job):
 
 
 def lengths(states, moves, nodes):
-    """The six lengths that the caller lends for so many states, move lines and nodes."""
-    return Lent(lower=states, upper=states, verdicts=states, moves=moves, vectors=VECTOR_PLACES * states + VECTOR_SPARE, marks=nodes * states)
+    """The seven lengths that the caller lends for so many states, move lines and nodes."""
+    return Lent(lower=states, upper=states, verdicts=states, order=states, moves=moves, vectors=VECTOR_PLACES * states + VECTOR_SPARE,
+                marks=nodes * states)
 
 
 def needed(job):
-    """The six lengths that the caller lends for a job."""
+    """The seven lengths that the caller lends for a job."""
     return lengths(len(job.state_rows), len(job.moves), len(f.nodes(job.tree)))
 
 
 def short_buffer(job):
-    return job.lent is not None and any(has < need for has, need in zip(job.lent, needed(job)))
+    """Any of the seven; of the order buffer "15 covers it too"."""
+    return job.lent is not None and any(has < need for has, need in zip(job.lent, needed(job), strict=True))
 
 
 # Document 01's table, in the order of its tests. "7 is never given again".
@@ -155,7 +157,7 @@ BY_TEXTS = frozenset(number for number, _ in TESTS if number != SHORT)      # th
 def refusal(moves, labels, formula, lent=None):
     """The number of the first test that holds, or the accepted job.
 
-    `lent` is the six lent lengths in the order of `Lent`; None is long enough.
+    `lent` is the seven lent lengths in the order of `Lent`; None is long enough.
     """
     job = Job(moves, labels, formula, lent)
     for number, holds in TESTS:

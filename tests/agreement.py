@@ -9,12 +9,11 @@ from reckoning.backing import TooMany
 from reckoning.judge import judge
 from reckoning.limits import MOST_STATES
 from reckoning.refusal import needed, refusal
-from reckoning.report import refused
-from reckoning.sheets import REPORT_LINE
+from reckoning.report import Row, listing, refused, worst_first
 from reckoning.verdict import WORDS
 from tests.library import GUARD, KINDS, Memory
 
-REPORT = ("lower", "upper", "verdicts", "depth")    # what an accepted job leaves to be judged; the other buffers it leaves at 0
+REPORT = ("lower", "upper", "verdicts", "order", "depth")   # what an accepted job leaves to be judged; the other buffers it leaves at 0
 NONE = Memory(*[0] * len(Memory._fields))
 
 
@@ -39,9 +38,13 @@ def library_faults(job, called, most_states=MOST_STATES):
     if called.number != number:
         return [f"number {called.number}, should be {number}"]
     faults = memory_faults(job, called, NONE if number else Memory(*needed(reckoned), 1))
-    if faults or number or reckoned.chain.states > most_states:
+    if faults or number:
         return faults
-    return judge(*job, printed(called, reckoned.chain.states), called.lent)
+    states = reckoned.chain.states
+    faults = order_faults(called, states)
+    if faults or states > most_states:
+        return faults
+    return judge(*job, printed(called, states), called.lent)
 
 
 def memory_faults(job, called, written):
@@ -58,15 +61,27 @@ def wanted(name, called, count):
     return before[:start] + (after[start:end] if name in REPORT else bytes(end - start)) + before[end:]
 
 
-def printed(called, states):
-    """What the program prints where the library did this; a byte that is no verdict is shown as a number."""
-    if called.number:
-        return refused(called.number)
-    lower, upper, verdicts = (elements(called, name, states) for name in REPORT[:3])
+def order_faults(called, states):
+    """Whether the order buffer holds the state numbers as the ends that were left put them; it is looked at however many states there are."""
+    order, wanted_order = elements(called, "order", states), worst_first(rows_of(called, states))
+    return [f"row {place} of the order is state {state}, should be {other}"
+            for place, (state, other) in enumerate(zip(order, wanted_order), 1) if state != other][:1]
+
+
+def rows_of(called, states):
+    """The rows that an accepted job left; a byte that is no verdict is shown as a number."""
+    lower, upper, verdicts = (elements(called, name, states) for name in ("lower", "upper", "verdicts"))
     depths = elements(called, "depth", 1) * states
     words = [WORDS[byte] if byte < len(WORDS) else byte for byte in verdicts]
-    rows = zip(range(states), lower, upper, depths, words)
-    return REPORT_LINE + "".join(",".join(map(str, row)) + "\n" for row in rows).encode()
+    return list(map(Row, lower, upper, depths, words))
+
+
+def printed(called, states):
+    """What the program prints where the library did this: the second listing has the states that the order buffer holds."""
+    if called.number:
+        return refused(called.number)
+    rows = rows_of(called, states)
+    return listing(rows, range(states)) + listing(rows, elements(called, "order", states))
 
 
 def elements(called, name, count):

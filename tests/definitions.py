@@ -1,7 +1,8 @@
 """Has the checker of proofs compute the definitions on concrete jobs.
 
 It writes a scratch crate outside the repository, with one equation by computation for each job, and checks it: that the job is turned back with
-its number, or accepted with its formula, q and depth. `python3 -m tests.definitions` tries every vector of ../shared/vectors that is small
+its number, or accepted with its formula, q and depth. Of rows that are given it has the order and the printed text computed too.
+`python3 -m tests.definitions` tries every vector of ../shared/vectors that is small
 enough (`--bytes N`: three texts of at most N bytes together, 2,000 if not given).
 """
 import argparse
@@ -14,18 +15,25 @@ import tempfile
 from reckoning import formula as f
 from reckoning.limits import MOST_MOVES, MOST_NODES, MOST_STATES
 from reckoning.refusal import Lent
+from reckoning.report import report_text, worst_first
 from reckoning.tests.vectors import MISSING, cases, texts_of
+from reckoning.verdict import NO, UNDECIDED, YES
 from tests.places import ROOT
 
 HEAD = f"""-- Jobs against the definitions, by computation. Assumes nothing.
 use mathlib.Core.Path.{{_≡_, refl}}
 use Prim.Native.Nat.{{ℕ}}
 use mathlib.Core.Option.{{Option, some, none}}
+use mathlib.Core.Bool.{{cond}}
+use mathlib.Core.List.{{List, [], _∷_}}
+use lib.Dec.{{eqb}}
 use Rattle.csl.specs.Text.{{bytes}}
 use Rattle.csl.specs.Formula.{{always, label, negated, both, chance, until, nextMove, Less, AtMost, AtLeast, More}}
 use Rattle.csl.specs.Lent.{{Buffers, needed}}
 use Rattle.csl.specs.Chain.{{topRate}}
-use Rattle.csl.specs.Report.{{depthOf}}
+use Rattle.csl.specs.Verdicts.{{No, Yes, Undecided}}
+use Rattle.csl.specs.Order.{{worstFirst}}
+use Rattle.csl.specs.Report.{{depthOf, reportText}}
 use Rattle.csl.specs.Refusal.{{Job, jobChain, jobFormula, refusal}}
 use Rattle.csl.specs.Laws.Computing.{{computing}}
 
@@ -85,7 +93,27 @@ def equation(number, job):
     return "\n".join(lines)
 
 
-def check(jobs):
+VERDICTS = {NO: "No", YES: "Yes", UNDECIDED: "Undecided"}
+
+
+def by_state(values):
+    """A function of the states that has these values, the last one from there on."""
+    *others, last = values
+    return "(λ s. " + "".join(f"cond (eqb s {state}) {value} (" for state, value in enumerate(others)) + f"{last}" + ")" * (len(others) + 1)
+
+
+def report_equations(number, rows, order=None):
+    """The equations for rows in the order of the states: their order, by the second reckoning where no other is given, and their printed text."""
+    lower, upper = (by_state([getattr(row, name) for row in rows]) for name in ("lower", "upper"))
+    verdicts = by_state([VERDICTS[row.verdict] for row in rows])
+    states = " ∷ ".join(map(str, [*(worst_first(rows) if order is None else order), "[]"]))
+    return "\n".join([
+        f"order-of-{number} : worstFirst {lower} {upper} {len(rows)} ≡ {states}", "unfolding computing", f"order-of-{number} = refl", "",
+        f"text-of-{number} : reportText {len(rows)} {lower} {upper} {rows[0].depth} {verdicts} ≡ bytes {quoted(report_text(rows))}",
+        "unfolding computing", f"text-of-{number} = refl", ""])
+
+
+def check(equations):
     """Whether all equations hold, and what the check printed."""
     with tempfile.TemporaryDirectory() as folder:
         scratch = pathlib.Path(folder)
@@ -95,11 +123,16 @@ def check(jobs):
         (crate / "specs").mkdir()
         (crate / "src" / "lib.rt").write_text("// Jobs against the definitions.\n")
         (crate / "specs" / "Lib.antt").write_text("pub mod Jobs\n")
-        text = HEAD + "\n" + "\n".join(equation(at, job) for at, job in enumerate(jobs))
+        text = HEAD + "\n" + "\n".join(equations)
         (crate / "specs" / "Jobs.antt").write_text(text, encoding="utf-8")
         (scratch / "crates.txt").write_text("csl:\njobs: csl\n")
         run = subprocess.run(["rt", "check", "jobs"], cwd=scratch, stdout=subprocess.PIPE, stderr=subprocess.STDOUT, text=True)
         return run.returncode == 0, run.stdout
+
+
+def equations_of(jobs):
+    """The equations for some jobs."""
+    return [equation(number, job) for number, job in enumerate(jobs)]
 
 
 def vectors(most):
@@ -115,7 +148,7 @@ def main():
         print(MISSING)
         return 1
     jobs = vectors(most)
-    good, printed = check(jobs)
+    good, printed = check(equations_of(jobs))
     print(f"{len(jobs)} vectors: " + ("all hold" if good else "NOT ALL HOLD\n" + printed))
     return 0 if good else 1
 

@@ -1,4 +1,4 @@
-"""A job that something was found with, kept in a folder: its three texts, and in lent.txt the six lent lengths."""
+"""A job that something was found with, kept in a folder: its three texts, and in lent.txt the seven lent lengths."""
 from pathlib import Path
 
 from reckoning.__main__ import read_texts

@@ -17,10 +17,10 @@ from tests.places import ARCHIVE, ROOT, TARGET, is_stale
 
 SHARED = TARGET / "library" / "libsebdyqul.so"
 
-# All that a call writes to: the six lent buffers, and the depth as a seventh.
+# All that a call writes to: the seven lent buffers, and the depth as an eighth.
 Memory = namedtuple("Memory", (*Lent._fields, "depth"))
-NUMBER, BYTE, WORD = ctypes.c_uint32, ctypes.c_uint8, ctypes.c_uint64
-KINDS = Memory(lower=NUMBER, upper=NUMBER, verdicts=BYTE, moves=WORD, vectors=WORD, marks=BYTE, depth=WORD)
+NUMBER, BYTE, STATE, WORD = ctypes.c_uint32, ctypes.c_uint8, ctypes.c_uint16, ctypes.c_uint64
+KINDS = Memory(lower=NUMBER, upper=NUMBER, verdicts=BYTE, order=STATE, moves=WORD, vectors=WORD, marks=BYTE, depth=WORD)
 
 ENOUGH = lengths(MOST_STATES, MOST_MOVES, MOST_NODES)           # for every job
 GUARD = 67                  # elements, an odd number: no lent part is aligned for more than its own type

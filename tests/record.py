@@ -4,7 +4,8 @@ import struct
 
 from reckoning.refusal import Lent
 
-LENGTHS = struct.Struct("9Q")       # of the three texts, then what is lent
+TEXTS = 3
+LENGTHS = struct.Struct(f"{TEXTS + len(Lent._fields)}Q")        # of the texts, then what is lent
 BYTES = 1 << 20
 
 
@@ -24,7 +25,7 @@ class Record:
         """The job that was noted last, and its lent lengths."""
         *lengths, at = *LENGTHS.unpack_from(self.memory), LENGTHS.size
         texts = []
-        for length in lengths[:3]:
+        for length in lengths[:TEXTS]:
             texts.append(self.memory[at:at + length])
             at += length
-        return tuple(texts), Lent(*lengths[3:])
+        return tuple(texts), Lent(*lengths[TEXTS:])

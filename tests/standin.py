@@ -10,8 +10,7 @@ from reckoning.ends import Rules
 from reckoning.formula import P
 from reckoning.judge import report_depth
 from reckoning.refusal import refusal
-from reckoning.report import ENDS_OF, refused
-from reckoning.sheets import REPORT_LINE
+from reckoning.report import ENDS_OF, Row, refused, report_text
 from reckoning.verdict import of_ends
 
 
@@ -21,18 +20,17 @@ def answer(moves, labels, formula):
     if isinstance(job, int):
         return refused(job)
     rules = Rules(job.chain)
-    depth = report_depth(rules, job.tree)
-    lines = [f"{state},{lower},{upper},{depth},{word}" for state, (lower, upper, word) in enumerate(rows(rules, job.tree))]
-    return REPORT_LINE + "".join(line + "\n" for line in lines).encode()
+    return report_text(rows(rules, job.tree))
 
 
 def rows(rules, tree):
-    """The two ends and the verdict of each state."""
+    """The row of each state."""
+    depth = report_depth(rules, tree)
     if not isinstance(tree, P):
-        return [(*ENDS_OF[word], word) for word in near(rules, tree)]
+        return [Row(*ENDS_OF[word], depth, word) for word in near(rules, tree)]
     every = rules.ends(tree.path, *near_operands(rules, tree))
     pairs = [(ends.lower[1], ends.upper[0]) for ends in every]
-    return [(*pair, of_ends(tree.comparison, tree.threshold, *pair)) for pair in pairs]
+    return [Row(*pair, depth, of_ends(tree.comparison, tree.threshold, *pair)) for pair in pairs]
 
 
 if __name__ == "__main__":

@@ -1,13 +1,15 @@
 """That a call of the library which did something wrong is told: each part of a good call is falsified in turn."""
 import unittest
 from ctypes import sizeof
+from itertools import permutations
 
 from reckoning.refusal import needed, refusal
 from reckoning.sheets import FORMULA, LABELS, MOVES, REPORT, labels_text, moves_text
-from tests.agreement import library_faults, printed
+from tests.agreement import elements, library_faults, printed
 from tests.library import GUARD, KINDS, Library, Memory
 
 SHEET = moves_text([(0, 1, 500), (1, 2, 700)]), labels_text([b"up", b"dead"], [[1, 0], [1, 0], [0, 1]])
+TIES = *SHEET, b"up\n"     # 1, 1 and 0: the order is that of the numbers
 ACCEPTED = *SHEET, b"P < 500000000 U 8 up dead\n"
 REFUSED = *SHEET, b"gas\n"
 
@@ -17,6 +19,14 @@ def changed(called, name, at):
     data = bytearray(getattr(called.after, name))
     data[at] ^= 0x5A
     return called._replace(after=called.after._replace(**{name: bytes(data)}))
+
+
+def with_order(called, order):
+    """The call with other numbers at the start of its order buffer."""
+    size = sizeof(KINDS.order)
+    data, start = called.after.order, GUARD * size
+    numbers = b"".join(number.to_bytes(size, "little") for number in order)
+    return called._replace(after=called.after._replace(order=data[:start] + numbers + data[start + len(numbers):]))
 
 
 class Falsified(unittest.TestCase):
@@ -53,6 +63,21 @@ class Falsified(unittest.TestCase):
             told = library_faults(ACCEPTED, self.accepted._replace(after=self.accepted.after._replace(**{name: before})))
             self.assertEqual(told, [f"{name} or a guard of it is not as it should be"])
 
+    def test_orders(self):
+        """The states are 2, 1, 0 from the worst on, or 0, 1, 2 where the first two are equal: every other order is told, and a state that is none."""
+        for job, right in ((ACCEPTED, (2, 1, 0)), (TIES, (0, 1, 2))):
+            called = self.library.check(job)
+            self.assertEqual(tuple(elements(called, "order", 3)), right)
+            for order in (*permutations(range(3)), (2, 2, 2), (2, 1, 1), (0, 0, 1), (2, 1, 3), (0, 1, 512), (258, 257, 256)):
+                told = library_faults(job, with_order(called, order))
+                self.assertEqual(len(told), int(order != right), (order, told))
+                self.assertTrue(all("of the order" in line for line in told), told)
+
+    def test_orders_of_reports_that_are_not_judged(self):
+        wrong = with_order(self.accepted, (0, 1, 2))
+        self.assertEqual(library_faults(ACCEPTED, wrong, most_states=1), ["row 1 of the order is state 0, should be 2"])
+        self.assertEqual(library_faults(ACCEPTED, self.accepted, most_states=1), [])
+
     def test_texts(self):
         for called, job in ((self.accepted, ACCEPTED), (self.refused, REFUSED)):
             self.assertEqual(library_faults(job, called._replace(texts=(b"", *job[1:]))), ["a text has changed"])
@@ -65,10 +90,15 @@ class Falsified(unittest.TestCase):
 
 class Printed(unittest.TestCase):
     def test_small_sheet(self):
-        """What document 01 prints in full, and a refusal."""
+        """What the documents print in full, both listings, and a refusal."""
         library = Library()
         self.assertEqual(printed(library.check((MOVES, LABELS, FORMULA)), 2), REPORT)
         self.assertEqual(printed(library.check((MOVES, LABELS, b"\n")), 2), b"refused\n10\n")
+
+    def test_second_listing_is_the_order_buffer(self):
+        called = with_order(Library().check(ACCEPTED), (1, 0, 1))
+        lines = printed(called, 3).splitlines()
+        self.assertEqual(lines[5:], [lines[2], lines[1], lines[2]])
 
 
 if __name__ == "__main__":

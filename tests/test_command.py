@@ -7,7 +7,7 @@ import unittest
 from reckoning.limits import HOUR, MOST_HUNDREDTHS, MOST_LEVELS, MOST_MOVES, MOST_RATE
 from reckoning.refusal import BY_TEXTS, refusal
 from reckoning.report import refused
-from reckoning.sheets import LABELS, MOVES, REPORT_LINE
+from reckoning.sheets import LABELS, MOVES, REPORT
 from tests.edges import levels, load, moves, small, typed
 from tests.places import ROOT
 from tests.program import put
@@ -65,8 +65,7 @@ class Command(unittest.TestCase):
 
     def test_says_nothing_of_a_report(self):
         printed, said = command("examples/small")
-        self.assertTrue(printed.startswith(REPORT_LINE))
-        self.assertEqual(said, "")
+        self.assertEqual((printed, said), (REPORT, ""))
 
     def test_wants_one_folder(self):
         for arguments in ([], ["examples/small", "docs"]):

@@ -118,6 +118,14 @@ class Curve(unittest.TestCase):
         picture = self.drawn(folder, "8.00", "8.25", "8.50", "8.750", "09")
         self.shows(picture, self.rows(folder, b"P <= 10000000 U %s power lost\n", (8, "8.25", "8.5", "8.75", 9), 0))
 
+    def test_every_state(self):
+        """Each state has the row of its own number, not the one that stands at its place in the second listing."""
+        folder, states = EXAMPLES / "gun-string", range(12)
+        rows = [self.rows(folder, b"P <= 10000000 U %s power lost\n", (8,), state) for state in states]
+        self.assertNotEqual(rows, sorted(rows, key=lambda row: -row[8].lower))
+        for state in states:
+            self.shows(self.drawn(folder, "8", "--state", state), rows[state])
+
     def test_threshold(self):
         picture = self.drawn(EXAMPLES / "gun-string", "8", "48")
         unit, zero = picture.scale("y")
@@ -208,7 +216,8 @@ class NoPicture(unittest.TestCase):
 
     def test_sheet_and_state(self):
         self.refuses("No such file", EXAMPLES / "none", "1")
-        self.refuses("no state 2", EXAMPLES / "small", "1", "--state", "2")
+        for state in range(2, 8):
+            self.refuses(f"no state {state}", EXAMPLES / "small", "1", "--state", state)
 
     def test_program(self):
         self.refuses("cannot run", EXAMPLES / "small", "1", run="/nowhere/program")

@@ -1,12 +1,16 @@
 """The definitions compute, and agree with the second reckoning, on a job for each number and some accepted; and they do not prove what is false."""
+import random
 import unittest
+from itertools import product
 
 from reckoning.ends import Rules
 from reckoning.formula import hours_text
 from reckoning.judge import report_depth
-from reckoning.limits import HOUR, MOST_HUNDREDTHS, MOST_LEVELS, MOST_RATE, MOST_STATES, RATE_HOURS
+from reckoning.limits import BILLION, HOUR, MOST_HUNDREDTHS, MOST_LEVELS, MOST_RATE, MOST_STATES, RATE_HOURS
 from reckoning.refusal import BY_TEXTS, SHORT, Job, lengths, refusal
+from reckoning.report import Row, worst_first
 from reckoning.sheets import FULL_MOVES, LABELS, MOVES, MOVES_LINE, labels_text, moves_text, until
+from reckoning.verdict import WORDS
 from tests import definitions
 
 # moves, labels, formula, lent lengths
@@ -33,6 +37,8 @@ JOBS = (
     (FULL_MOVES, LABELS, until(HOUR + 1), None),
     (moves_text([(0, 1, RATE_HOURS)]), LABELS, until(6_325), lengths(2, 1, 3)),
     (MOVES, LABELS, until(HOUR), lengths(2, 1, 3)._replace(marks=5)),
+    (MOVES, LABELS, until(HOUR), lengths(2, 1, 3)._replace(order=1)),
+    (MOVES, LABELS, until(HOUR), lengths(2, 1, 3)._replace(order=3)),
     (b"", LABELS, b"up\n", None),
     (MOVES, labels_text([], [[]] * (MOST_STATES + 1)), b"tt\n", None),
 )
@@ -50,18 +56,39 @@ def reckoned(moves, labels, formula, lent):
     return job
 
 
+def reports():
+    """Rows of reports: the small sheet's, each way in which three lower ends can stand to each other, and drawn ones."""
+    rng = random.Random(23)
+    yield [Row(0, 0, 40, "no"), Row(BILLION, BILLION, 40, "yes")]
+    for lower in product((0, 7, 9), repeat=3):
+        yield [Row(low, upper, 0, word) for low, upper, word in zip(lower, (9, BILLION, 9), ("no", "undecided", "yes"))]
+    for states in (1, 9, 12):
+        yield [Row(low, BILLION, 168, rng.choice(WORDS)) for low in rng.choices((0, 3_992_010, BILLION, rng.randrange(BILLION)), k=states)]
+
+
 class Definitions(unittest.TestCase):
     def test_agree_with_the_second_reckoning(self):
+        """On jobs, and on the order and the two listings of reports."""
         jobs = [reckoned(*job) for job in JOBS]
         numbers = {job.get("refused") for job in jobs}
         self.assertTrue(numbers >= {None, *BY_TEXTS, SHORT} - {5}, numbers)
-        good, printed = definitions.check(jobs)
+        listings = [definitions.report_equations(number, rows) for number, rows in enumerate(reports())]
+        self.assertGreater(len(listings), 30)
+        good, printed = definitions.check(definitions.equations_of(jobs) + listings)
         self.assertTrue(good, printed)
 
     def test_a_wrong_number_is_not_proved(self):
         job = dict(reckoned(*JOBS[1]), refused=3)
-        good, _ = definitions.check([job])
+        good, _ = definitions.check(definitions.equations_of([job]))
         self.assertFalse(good)
+
+    def test_another_order_is_not_proved(self):
+        """Equal ends by falling number."""
+        rows = [Row(0, 0, 0, "no"), Row(5, 5, 0, "no"), Row(5, 5, 0, "no")]
+        self.assertEqual(worst_first(rows), [1, 2, 0])
+        good, printed = definitions.check([definitions.report_equations(0, rows, order=[2, 1, 0])])
+        self.assertFalse(good)
+        self.assertIn("order-of-0", printed)
 
 
 if __name__ == "__main__":

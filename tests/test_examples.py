@@ -15,6 +15,7 @@ from tests.places import EXAMPLES, FOLDERS, ROOT
 COMMAND = ROOT / "sheetcheck"
 CLOSE = 1e-6                # what a double may be off the ends
 TABLE_LINE = re.compile(r"\| (\d+) \| [^|]+ \| ([0-9.]+) \| (yes|no) \|")
+SAMPLE = re.compile(r"^    \$ (.+)\n((?:    .+\n)+)", re.MULTILINE)
 INDEX_LINE = re.compile(r"\| `([a-z0-9-]+)` \| (\d+) \| (\d+) \| .*")
 
 
@@ -98,6 +99,31 @@ class Told(unittest.TestCase):
                 with self.subTest(folder.name, state=state):
                     decimals = len(chance.partition(".")[2])
                     self.assertEqual((chance, verdict), (f"{chances[int(state)]:.{decimals}f}", word(holds[int(state)])))
+
+    def test_samples(self):
+        """What a README shows below a command is what that command prints."""
+        samples = [sample for folder in FOLDERS for sample in SAMPLE.findall((folder / "README.md").read_text())]
+        self.assertGreaterEqual(len(samples), 4)
+        for line, shown in samples:
+            with self.subTest(line):
+                done = subprocess.run(["bash", "-c", line], cwd=ROOT, stdout=subprocess.PIPE, text=True)
+                self.assertEqual(done.stdout, re.sub("(?m)^    ", "", shown))
+
+    def test_worst_states_of_the_redundant_string(self):
+        """300 states are on the brink, 100 have no chance to come there, and of the others four say no: those that its README names."""
+        allowed = allowed_ends(*read_texts(EXAMPLES / "redundant-string"))
+        certain = [state for state, lower in enumerate(allowed.lower) if lower == (BILLION, BILLION)]
+        never = [state for state, upper in enumerate(allowed.upper) if upper == (0, 0)]
+        self.assertEqual((len(certain), certain[:3], len(never)), (300, [1, 2, 3], 100))
+        others = sorted(set(range(len(allowed.lower))) - {*certain, *never}, key=lambda state: -allowed.lower[state][0])
+        self.assertEqual(others[:5], [32, 176, 80, 224, 24])
+        for worse, better in zip(others[:5], others[1:6]):
+            self.assertGreater(allowed.lower[worse][0], allowed.lower[better][1])
+        self.assertEqual([state for state in others if allowed.verdicts[state] != {"yes"}], [32, 176, 80, 224])
+        labels = SHEETS["redundant-string"].labels
+        for state in never:
+            told = SHEETS["redundant-string"].states[state]
+            self.assertFalse(labels["power"](told) and labels["modem"](told))
 
     def test_formulas(self):
         for folder in FOLDERS:

@@ -20,8 +20,8 @@ SEED = 31
 HEAD = '#include "sebdyqul.h"\n'
 BODY = """{
     (void)moves, (void)moves_length, (void)labels, (void)labels_length, (void)formula_length, (void)lower, (void)lower_length, (void)upper;
-    (void)upper_length, (void)verdicts, (void)verdicts_length, (void)words, (void)words_length, (void)vectors, (void)vectors_length;
-    (void)marks, (void)marks_length, (void)depth, (void)formula;
+    (void)upper_length, (void)verdicts, (void)verdicts_length, (void)order, (void)order_length, (void)words, (void)words_length;
+    (void)vectors, (void)vectors_length, (void)marks, (void)marks_length, (void)depth, (void)formula;
     WRONG
     return 1;
 }
@@ -71,6 +71,8 @@ class Fuzz(unittest.TestCase):
         self.assertEqual(self.found("*depth = 7;").faults, ["depth or a guard of it is not as it should be"])
         self.assertEqual(self.found("marks[marks_length] ^= 1;").faults, ["marks or a guard of it is not as it should be"])
         self.assertEqual(self.found("lower[-1] ^= 1;").faults, ["lower or a guard of it is not as it should be"])
+        for wrong in ("order[0] ^= 1;", "order[order_length] ^= 256;", "order[-1] ^= 1;"):
+            self.assertEqual(self.found(wrong).faults, ["order or a guard of it is not as it should be"])
 
     def test_crashes(self):
         ended = self.found("if (formula_length) __builtin_trap();")

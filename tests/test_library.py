@@ -2,16 +2,17 @@
 import random
 import unittest
 from concurrent.futures import ThreadPoolExecutor
+from ctypes import sizeof
 
 from reckoning.__main__ import read_texts
 from reckoning.formula import hours_text
-from reckoning.limits import HOUR, MOST_HUNDREDTHS, MOST_MOVES, MOST_NODES, MOST_RATE
+from reckoning.limits import HOUR, MOST_HUNDREDTHS, MOST_MOVES, MOST_NODES, MOST_RATE, MOST_STATES
 from reckoning.refusal import BY_TEXTS, Lent, lengths, needed, refusal
-from reckoning.sheets import NO_MOVES, moves_text
-from tests import edges
-from tests.agreement import library_faults, printed, refusal_number, tried
+from reckoning.sheets import FORMULA, LABELS, MOVES, NO_MOVES, labels_text, moves_text
+from tests import edges, orders
+from tests.agreement import elements, library_faults, printed, refusal_number, rows_of, tried
 from tests.jobs import damaged_job, random_job
-from tests.library import ENOUGH, Library
+from tests.library import ENOUGH, GUARD, KINDS, MORE, Library
 from tests.mutations import bent_job
 from tests.places import FOLDERS
 from tests.program import run
@@ -20,8 +21,8 @@ DAMAGED = 3_000
 MADE = 600
 AS_PROGRAM = 120
 AT_ONCE = 10
-NOTHING = Lent(0, 0, 0, 0, 0, 0)
-ONES = Lent(1, 1, 1, 1, 1, 1)
+NOTHING = Lent(*[0] * len(Lent._fields))
+ONES = Lent(*[1] * len(Lent._fields))
 FEW = lengths(8, 8, 24)
 
 
@@ -117,7 +118,7 @@ class Buffers(LibraryTest):
     """Lent buffers that are just long enough, and too short."""
 
     def accepted_jobs(self):
-        """Jobs whose six lengths are all above 0, and the lengths."""
+        """Jobs whose seven lengths are all above 0, and the lengths."""
         rng = random.Random(14)
         jobs = [read_texts(folder) for folder in FOLDERS] + [random_job(rng) for _ in range(25)]
         jobs += [edges.load(MOST_RATE, HOUR), edges.moves(MOST_MOVES), edges.nodes(MOST_NODES)]
@@ -162,6 +163,92 @@ class Buffers(LibraryTest):
         for number, job in found.items():
             for lent in (NOTHING, ONES, ENOUGH):
                 self.assertEqual(self.agrees(job, lent)[0].number, number)
+
+
+class Orders(LibraryTest):
+    """The order buffer: "the state numbers in that order after acceptance", the worst state first."""
+
+    def order_of(self, job, lent=ENOUGH):
+        """The order that an accepted job leaves."""
+        called, _ = self.agrees(job, lent)
+        self.assertEqual(called.number, 0)
+        return elements(called, "order", states_of(job))
+
+    def test_small_sheet(self):
+        self.assertEqual(self.order_of((MOVES, LABELS, FORMULA)), [1, 0])
+
+    def test_known_orders(self):
+        """Falling, rising and equal ends and mixtures of them, for few states and for as many as there may be."""
+        for size in orders.SIZES:
+            for name, (shares, order) in orders.known(size).items():
+                with self.subTest(name, states=size + 1):
+                    self.assertEqual(self.order_of(orders.shares_job(shares)), order)
+
+    def test_every_order_of_five(self):
+        for shares in orders.every_five():
+            job = orders.shares_job(shares)
+            called, _ = self.agrees(job)
+            self.assertEqual([row.lower for row in rows_of(called, 6)], [*map(orders.lower_end, shares), 0])
+            expected = [state for share in (3, 2, 1) for state in range(5) if shares[state] == share] + [5]
+            self.assertEqual(elements(called, "order", 6), expected)
+
+    def test_drawn_orders(self):
+        """Drawn ends, many of them equal or few, on the largest sheets."""
+        rng = random.Random(17)
+        for most in (1, 2, 5, 40, 600, orders.WHOLE):
+            shares = [rng.randint(1, most) for _ in range(MOST_STATES - 1)]
+            order = self.order_of(orders.shares_job(shares))
+            self.assertEqual(order, [*sorted(range(MOST_STATES - 1), key=lambda state: (orders.WHOLE - shares[state], state)), MOST_STATES - 1])
+
+    def test_ties_go_by_number(self):
+        """Equal lower ends, whatever the upper ends and the verdicts: states 0 and 1 are no and undecided, or the other way round."""
+        labels, third = labels_text([b"dead"], [[0], [0], [1]]), b"! P < 333333334 X dead\n"
+        for moves, verdicts in ((moves_text([(1, 1, 2), (1, 2, 1)]), ["no", "undecided", "no"]),
+                                (moves_text([(0, 0, 2), (0, 2, 1)]), ["undecided", "no", "no"])):
+            called, _ = self.agrees((moves, labels, third))
+            self.assertEqual([row.verdict for row in rows_of(called, 3)], verdicts)
+            self.assertEqual(elements(called, "order", 3), [0, 1, 2])
+
+    def test_outermost_node_other_than_a_bound(self):
+        """States that say yes go before the others, by number: the ends of a label are 1,000,000,000 or 0."""
+        marks = [state % 3 == 1 for state in range(MOST_STATES)]
+        job = NO_MOVES, labels_text([b"up"], [[mark] for mark in marks]), b"up\n"
+        self.assertEqual(self.order_of(job), [s for s in range(MOST_STATES) if marks[s]] + [s for s in range(MOST_STATES) if not marks[s]])
+        self.assertEqual(self.order_of((*job[:2], b"tt\n")), list(range(MOST_STATES)))
+
+    def test_lengths(self):
+        """One number short is 15 with every byte as it was; beyond the n that are needed nothing changes."""
+        size = sizeof(KINDS.order)
+        for job in ((MOVES, LABELS, FORMULA), orders.shares_job([3, 1, 2]), orders.shares_job(list(range(1, MOST_STATES)))):
+            need = needed(refusal(*job))
+            self.assertEqual(need.order, states_of(job))
+            for lent in (need._replace(order=need.order - 1), ENOUGH._replace(order=need.order - 1), ENOUGH._replace(order=0)):
+                called, _ = self.agrees(job, lent)
+                self.assertEqual((called.number, called.after), (15, called.before))
+            for more in (0, 1, 2, 7, MORE):
+                called, _ = self.agrees(job, need._replace(order=need.order + more))
+                end = (GUARD + need.order) * size
+                self.assertEqual(called.number, 0)
+                self.assertEqual(called.after.order[end:], called.before.order[end:])
+                self.assertEqual(len(called.after.order[end:]), (more + GUARD) * size)
+
+    def test_refused_jobs_leave_it(self):
+        for number, job in refused_jobs().items():
+            called, _ = self.agrees(job)
+            self.assertEqual((called.number, called.after.order), (number, called.before.order))
+
+    def test_the_program_lists_the_same(self):
+        """The states of the program's second listing are those of the order buffer."""
+        rng = random.Random(18)
+        jobs = [random_job(rng, most_states=12) for _ in range(AS_PROGRAM // 4)] + [read_texts(folder) for folder in FOLDERS]
+        jobs += [orders.shares_job(shares) for shares, _ in orders.known(MOST_STATES - 1).values()]
+        moved = 0
+        for job in jobs:
+            order, states = self.order_of(job), states_of(job)
+            lines = run(job).splitlines()
+            self.assertEqual([int(line.split(b",")[0]) for line in lines[states + 2:]], order)
+            moved += order != list(range(states))
+        self.assertGreater(moved, len(jobs) // 3)
 
 
 def refused_jobs():

@@ -41,6 +41,7 @@ class Limits(unittest.TestCase):
                 self.assertEqual(number, getattr(limits, in_python(name)))
 
     def test_lengths_of_the_library(self):
+        self.assertEqual({ENOUGH.lower, ENOUGH.upper, ENOUGH.verdicts, ENOUGH.order}, {LENT["RESULTS"]})
         self.assertEqual(numbers(HEADER, "library/sebdyqul.h"), LENT)
         self.assertEqual(numbers(RUST, "library/sebdyqul.rs"), LENT)
 

@@ -8,9 +8,11 @@ from reckoning.judge import judge
 from reckoning.limits import BILLION, HOUR, MOST_HUNDREDTHS, MOST_LEVELS, MOST_RATE
 from reckoning.refusal import BY_TEXTS
 from reckoning.report import read_report, refused
-from reckoning.sheets import FAST_MOVES, FORMULA, FULL_MOVES, HOURS_8, LABELS, MOVES, NO_MOVES, REPORT, REPORT_LINE, moves_text, until
+from reckoning.sheets import (FAST_MOVES, FORMULA, FULL_MOVES, HOURS_8, LABELS, MOVES, NO_MOVES, REPORT, REPORT_LINE, labels_text, moves_text,
+                              until)
+from reckoning.tests.prints import twice
 from reckoning.tests.vectors import MISSING, cases, texts_of
-from tests import edges
+from tests import edges, orders
 from tests.agreement import refusal_number, tried
 from tests.jobs import Sheet, damaged_job, random_job
 from tests.mutations import bent_job
@@ -112,10 +114,10 @@ class Program(unittest.TestCase):
             return run((moves_text(moves), LABELS, formula + b"\n"))
         restart, dead = ((0, 0, 2), (0, 1, 1)), b"1,0,0,0,no\n"
         third = b"P %s X dead"
-        self.assertEqual(printed(third % b">= 333333334", (0, 1, 500)), REPORT_LINE + b"0,1000000000,1000000000,0,yes\n" + dead)
-        self.assertEqual(printed(third % b">= 333333334"), REPORT_LINE + b"0,0,0,0,no\n" + dead)
-        self.assertEqual(printed(third % b">= 333333334", *restart), REPORT_LINE + b"0,333333333,333333334,0,undecided\n" + dead)
-        self.assertEqual(printed(third % b">= 1000000000", (1, 1, 3)), REPORT_LINE + b"0,0,0,0,no\n1,1000000000,1000000000,0,yes\n")
+        self.assertEqual(printed(third % b">= 333333334", (0, 1, 500)), twice(REPORT_LINE + b"0,1000000000,1000000000,0,yes\n" + dead))
+        self.assertEqual(printed(third % b">= 333333334"), twice(REPORT_LINE + b"0,0,0,0,no\n" + dead))
+        self.assertEqual(printed(third % b">= 333333334", *restart), twice(REPORT_LINE + b"0,333333333,333333334,0,undecided\n" + dead))
+        self.assertEqual(printed(third % b">= 1000000000", (1, 1, 3)), twice(REPORT_LINE + b"0,0,0,0,no\n1,1000000000,1000000000,0,yes\n"))
         for bound, word in ((b">= 333333333", "yes"), (b"> 333333333", "undecided"), (b"> 333333334", "no"), (b"< 333333333", "no"),
                             (b"<= 333333333", "undecided"), (b"< 333333334", "undecided"), (b"<= 333333334", "yes"), (b"< 333333335", "yes")):
             self.assertEqual(read_report(printed(third % bound, *restart), 2)[0].verdict, word, bound)
@@ -151,6 +153,35 @@ class Program(unittest.TestCase):
             question = b"P >= 500000000 U 1 %s %s\n" % (rng.choice(sheet.names), rng.choice(sheet.names))
             others = moves_text([(a, b, rate) for a, b, rate in sheet.moves if a != b])
             self.assertEqual(run((sheet.moves_text, sheet.labels_text, question)), run((others, sheet.labels_text, question)))
+
+    def test_worst_state_at_the_top(self):
+        """The small sheet "prints three lines more: the names, state 1, state 0", which makes six; a refusal prints two as before."""
+        self.assertEqual(run((MOVES, LABELS, FORMULA)).split(b"\n"), [
+            b"state,lower,upper,depth,verdict", b"0,0,0,40,no", b"1,1000000000,1000000000,40,yes",
+            b"state,lower,upper,depth,verdict", b"1,1000000000,1000000000,40,yes", b"0,0,0,40,no", b""])
+        self.assertEqual(run((MOVES, LABELS, b"gas\n")), b"refused\n12\n")
+
+    def test_known_orders(self):
+        """The second listing has the rows of the first in the order that the job was made for, also with as many states as there may be."""
+        for size in orders.SIZES:
+            for name, (shares, order) in orders.known(size).items():
+                with self.subTest(name, states=size + 1):
+                    lines = run(orders.shares_job(shares)).splitlines(keepends=True)
+                    first, second = lines[:size + 2], lines[size + 2:]
+                    ends = [b"%d,%d,%d," % (state, low, low) for state, low in enumerate([*map(orders.lower_end, shares), 0])]
+                    self.assertTrue(all(map(bytes.startswith, first[1:], ends)))
+                    self.assertEqual(second, [REPORT_LINE, *(first[1 + state] for state in order)])
+
+    def test_ties(self):
+        """Equal lower ends go by rising number: all equal, two values by turns, and no beside undecided."""
+        yes, no, labels = b"%d,1000000000,1000000000,0,yes\n", b"%d,0,0,0,no\n", labels_text([b"up"], [[1], [0], [1], [0]])
+        first = REPORT_LINE + b"".join(yes % state for state in range(4))
+        self.assertEqual(run((NO_MOVES, labels, b"tt\n")), first + first)
+        first = REPORT_LINE + yes % 0 + no % 1 + yes % 2 + no % 3
+        self.assertEqual(run((NO_MOVES, labels, b"up\n")), first + REPORT_LINE + yes % 0 + yes % 2 + no % 1 + no % 3)
+        labels, open_ = labels_text([b"dead"], [[0], [0], [1]]), b"%d,0,1000000000,0,undecided\n"
+        first = REPORT_LINE + no % 0 + open_ % 1 + no % 2
+        self.assertEqual(run((moves_text([(1, 1, 2), (1, 2, 1)]), labels, b"! P < 333333334 X dead\n")), first + first)
 
     def test_stack_of_the_deepest_formulas(self):
         limit = lambda: resource.setrlimit(resource.RLIMIT_STACK, (READING_STACK, READING_STACK))

@@ -1,15 +1,18 @@
 """A short soak; and that a soak of a library that is wrong somewhere stops there, keeps the job and can be run again."""
+import random
 import subprocess
 import tempfile
 import unittest
+from collections import Counter
 from pathlib import Path
 from unittest import mock
 
-from reckoning.refusal import BY_TEXTS, SHORT
+from reckoning.refusal import BY_TEXTS, SHORT, needed, refusal
 from tests import finding, soaking
-from tests.library import ENOUGH, GUARD, Library
+from tests.library import ENOUGH, GUARD, MORE, Library
+from tests.mutations import some_lent
 from tests.places import ROOT
-from tests.soaking import soak, try_job
+from tests.soaking import soak, some_job, try_job
 
 SOAK = ROOT / "tests" / "soak"
 JOBS = 2_000
@@ -41,6 +44,15 @@ def lower_above_upper(called):
     return called._replace(after=called.after._replace(lower=data))
 
 
+def another_state_first(called):
+    """The first number of the order, where there is a report, another one."""
+    if called.number:
+        return called
+    at = GUARD * 2
+    data = called.after.order[:at] + bytes([called.after.order[at] ^ 1]) + called.after.order[at + 1:]
+    return called._replace(after=called.after._replace(order=data))
+
+
 class Soak(unittest.TestCase):
     @classmethod
     def setUpClass(cls):
@@ -61,6 +73,23 @@ class Soak(unittest.TestCase):
     def test_a_wrong_end_is_found(self):
         ended = soak(JOBS, SEED, Wrong(self.library, lower_above_upper))
         self.assertRegex("".join(ended.faults), "^state 0: ends ")
+
+    def test_a_wrong_order_is_found(self):
+        ended = soak(JOBS, SEED, Wrong(self.library, another_state_first))
+        self.assertRegex("".join(ended.faults), r"^row 1 of the order is state \d+, should be \d+$")
+
+    def test_order_buffers_of_all_lengths_are_lent(self):
+        """Just enough, one short, one more and many more; short ones alone are refused with 15."""
+        rng, over = random.Random(SEED), Counter()
+        for job in (some_job(rng) for _ in range(JOBS)):
+            reckoned = refusal(*job)
+            if not isinstance(reckoned, int):
+                lent, need = some_lent(rng, job), needed(reckoned)
+                over[lent.order - need.order] += 1
+                if lent._replace(order=need.order) == need:
+                    self.assertEqual(refusal(*job, lent) == SHORT, lent.order < need.order)
+        self.assertLessEqual({-1, 0, 1, MORE}, set(over))
+        self.assertTrue(any(each < -1 for each in over) and any(each > MORE for each in over), over)
 
     def test_a_wrong_program_is_found(self):
         with mock.patch.object(soaking, "run", lambda job: b"refused\n16\n"):

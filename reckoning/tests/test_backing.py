@@ -15,13 +15,14 @@ from reckoning.limits import BILLION
 from reckoning.report import ENDS_OF
 from reckoning.sheets import LABELS, MOVES, REPORT_LINE, moves_text
 from reckoning.tests.chains import random_chain, random_hundredths, row, texts
+from reckoning.tests.prints import twice
 from reckoning.verdict import NO, WORDS, YES, both, negate, of_ends
 
 NEAR = b"P >= 3992000 U 8 up dead"      # the limit is about 3,992,010.656: yes or undecided
 
 
 def printed(rows):
-    return REPORT_LINE + b"".join(b"%d,%d,%d,%d,%s\n" % (s, *row[:3], row[3].encode()) for s, row in enumerate(rows))
+    return twice(REPORT_LINE + b"".join(b"%d,%d,%d,%d,%s\n" % (s, *row[:3], row[3].encode()) for s, row in enumerate(rows)))
 
 
 def other(*words):

@@ -1,13 +1,25 @@
-"""Prints that the rules allow, and altered ones that they do not."""
+"""Prints that the rules allow, and altered ones that they do not.
+
+`allows` and `refuses` are given a first listing, and put the second behind it; `allows_whole` and `refuses_whole` are given all of a print.
+"""
 
 import unittest
+from itertools import permutations
+from random import Random
+from unittest import mock
 
+from reckoning import backing
 from reckoning.judge import allowed_ends, judge
-from reckoning.limits import MOST_HUNDREDTHS, MOST_LEVELS
+from reckoning.limits import BILLION, MOST_HUNDREDTHS, MOST_LEVELS
 from reckoning.refusal import lengths
+from reckoning.report import Row, read_report, report_text, worst_first
 from reckoning.sheets import (FAST_MOVES, FORMULA, FULL_MOVES, HOURS_8, HOURS_8_REPORT, LABELS, MOVES, NO_MOVES, REPORT, REPORT_LINE, labels_text,
                               moves_text, until)
 from reckoning.tests.chains import row, texts
+from reckoning.tests.prints import twice
+from reckoning.verdict import WORDS
+
+HOURS_8_ROWS = REPORT_LINE + b"0,3992010,3992011,42,yes\n1,1000000000,1000000000,42,no\n"
 
 
 def faults(formula, printed, moves=MOVES, labels=LABELS):
@@ -15,18 +27,25 @@ def faults(formula, printed, moves=MOVES, labels=LABELS):
 
 
 class Judged(unittest.TestCase):
-    def allows(self, formula, printed, **sheet):
+    def allows_whole(self, formula, printed, **sheet):
         self.assertEqual(faults(formula, printed, **sheet), [])
 
-    def refuses(self, formula, printed, **sheet):
+    def refuses_whole(self, formula, printed, **sheet):
         self.assertNotEqual(faults(formula, printed, **sheet), [])
+
+    def allows(self, formula, first, **sheet):
+        self.allows_whole(formula, twice(first), **sheet)
+
+    def refuses(self, formula, first, **sheet):
+        self.refuses_whole(formula, twice(first), **sheet)
 
 
 class Bench(Judged):
     def test_printed_sheets(self):
         yes, no = b"1000000000,1000000000,%d,yes\n", b"0,0,%d,no\n"
-        self.allows(FORMULA, REPORT)
-        self.allows(HOURS_8, HOURS_8_REPORT)
+        self.allows_whole(FORMULA, REPORT)
+        self.allows_whole(HOURS_8, HOURS_8_REPORT)
+        self.assertEqual(twice(HOURS_8_ROWS), HOURS_8_REPORT)
         self.allows(b"tt\n", REPORT_LINE + b"0," + yes % 0 + b"1," + yes % 0)
         self.allows(b"& up ! dead\n", REPORT_LINE + b"0," + yes % 0 + b"1," + no % 0)
         self.allows(b"! " * (MOST_LEVELS - 1) + b"up\n", REPORT_LINE + b"0," + no % 0 + b"1," + yes % 0)
@@ -34,15 +53,16 @@ class Bench(Judged):
                     REPORT_LINE + b"0,0,0,40,yes\n1,1000000000,1000000000,40,no\n", moves=NO_MOVES)
 
     def test_refusals(self):
-        self.allows(b"P >= 5 U 2 up dead\n", b"refused\n14\n", moves=FULL_MOVES)
-        self.allows(b"! " * MOST_LEVELS + b"up\n", b"refused\n11\n")
+        self.allows_whole(b"P >= 5 U 2 up dead\n", b"refused\n14\n", moves=FULL_MOVES)
+        self.allows_whole(b"! " * MOST_LEVELS + b"up\n", b"refused\n11\n")
         for printed in (b"refused\n14", b"refused 14\n", b"refused\n13\n", b"refused\n014\n", b"",
-                        b"refused\n14\n\n", b"Refused\n14\n", REPORT):
-            self.refuses(b"P >= 5 U 2 up dead\n", printed, moves=FULL_MOVES)
-        self.refuses(FORMULA, b"refused\n15\n")
+                        b"refused\n14\n\n", b"refused\n14\nrefused\n14\n", b"Refused\n14\n", REPORT):
+            self.refuses_whole(b"P >= 5 U 2 up dead\n", printed, moves=FULL_MOVES)
+        self.refuses_whole(FORMULA, b"refused\n15\n")
 
     def test_lent(self):
-        self.assertEqual(judge(MOVES, LABELS, FORMULA, b"refused\n15\n", lengths(2, 1, 3)._replace(verdicts=1)), [])
+        for short in ("verdicts", "order"):
+            self.assertEqual(judge(MOVES, LABELS, FORMULA, b"refused\n15\n", lengths(2, 1, 3)._replace(**{short: 1})), [])
         self.assertEqual(judge(MOVES, LABELS, FORMULA, REPORT, lengths(2, 1, 3)), [])
 
     def test_depth_168(self):
@@ -56,22 +76,22 @@ class Bench(Judged):
     def test_freedom(self):
         """Ends a little off are allowed, to the last billionth."""
         for ends in (b"3991843,3992011", b"3992010,3992178", b"3992000,3992100", b"3991900,3992068"):
-            self.allows(HOURS_8, HOURS_8_REPORT.replace(b"3992010,3992011", ends))
+            self.allows(HOURS_8, HOURS_8_ROWS.replace(b"3992010,3992011", ends))
 
 
 class Layout(Judged):
     def test_small_sheet_altered(self):
-        last = b"1,1000000000,1000000000,40,yes\n"
         for printed in (
-                REPORT[:-1], REPORT + b"\n", REPORT.replace(b"\n", b"\r\n"),
-                REPORT_LINE + last + b"0,0,0,40,no\n", REPORT_LINE + b"0,0,0,40,no\n", REPORT + b"2,0,0,40,no\n",
+                REPORT[:-1], REPORT + b"\n", REPORT.replace(b"\n", b"\r\n"), REPORT + b"2,0,0,40,no\n", REPORT + b" ",
                 REPORT[len(REPORT_LINE):], b"state,lower,upper,depth\n" + REPORT[len(REPORT_LINE):],
                 REPORT.replace(b"0,0,0,", b"0,00,0,"), REPORT.replace(b"0,0,0,", b"00,0,0,"),
                 REPORT.replace(b"40,no", b"040,no"), REPORT.replace(b",", b", "),
                 REPORT.replace(b"no", b"No"), REPORT.replace(b"40,no", b"40,0"),
                 REPORT.replace(b"0,0,0,40,no", b"0,0,0,no"), b"", b"\n"):
             with self.subTest(printed=printed):
-                self.refuses(FORMULA, printed)
+                self.refuses_whole(FORMULA, printed)
+        for rows in (b"1,1000000000,1000000000,40,yes\n0,0,0,40,no\n", b"0,0,0,40,no\n"):
+            self.refuses(FORMULA, REPORT_LINE + rows)
 
     def test_state_numbers(self):
         line = b"1000000000,1000000000,0,yes\n"
@@ -80,16 +100,16 @@ class Layout(Judged):
             self.refuses(b"tt\n", REPORT_LINE + first + line + second + line)
 
     def test_depth(self):
-        self.refuses(FORMULA, REPORT.replace(b"40", b"42"))
-        self.refuses(HOURS_8, HOURS_8_REPORT.replace(b",42,yes", b",41,yes"))
+        self.refuses_whole(FORMULA, REPORT.replace(b",40,", b",42,"))
+        self.refuses(HOURS_8, HOURS_8_ROWS.replace(b",42,yes", b",41,yes"))
         self.refuses(b"tt\n", REPORT_LINE + b"0,1000000000,1000000000,40,yes\n1,1000000000,1000000000,40,yes\n")
 
 
 class Content(Judged):
-    def altered(self, old, new, formula=HOURS_8, printed=HOURS_8_REPORT, **sheet):
-        self.allows(formula, printed, **sheet)
-        self.assertIn(old, printed)
-        self.refuses(formula, printed.replace(old, new, 1), **sheet)
+    def altered(self, old, new, formula=HOURS_8, first=HOURS_8_ROWS, **sheet):
+        self.allows(formula, first, **sheet)
+        self.assertIn(old, first)
+        self.refuses(formula, first.replace(old, new, 1), **sheet)
 
     def test_lower_above(self):
         self.altered(b"3992010,", b"3992011,")
@@ -112,20 +132,19 @@ class Content(Judged):
     def test_point_ends_missing(self):
         self.altered(b"1000000000,1000000000,42", b"999999999,1000000000,42")
         sheet = dict(moves=MOVES, labels=labels_text([b"up", b"dead"], [(1, 0), (0, 1), (0, 0)]))
-        printed = HOURS_8_REPORT + b"2,0,0,42,yes\n"
-        self.altered(b"2,0,0,", b"2,0,1,", printed=printed, **sheet)
+        self.altered(b"2,0,0,", b"2,0,1,", first=HOURS_8_ROWS + b"2,0,0,42,yes\n", **sheet)
 
     def test_only_the_second_holds(self):
         labels = LABELS.replace(b"0,1,0", b"0,0,1")
-        printed = REPORT_LINE + b"0,1000000000,1000000000,42,no\n1,1000000000,1000000000,42,no\n"
-        self.altered(b"0,1000000000,1000000000,42,no", b"0,0,0,42,yes", printed=printed, labels=labels)
+        first = REPORT_LINE + b"0,1000000000,1000000000,42,no\n1,1000000000,1000000000,42,no\n"
+        self.altered(b"0,1000000000,1000000000,42,no", b"0,0,0,42,yes", first=first, labels=labels)
 
     def test_rounded_to_nearest(self):
         """The limit is about 3,992,010.656 billionths."""
         self.altered(b"3992010,3992011", b"3992011,3992011")
 
     def test_load_0_is_exact(self):
-        self.altered(b"0,0,0,40", b"0,0,1,40", formula=FORMULA, printed=REPORT)
+        self.altered(b"0,0,0,40", b"0,0,1,40", formula=FORMULA, first=REPORT_LINE + b"0,0,0,40,no\n1,1000000000,1000000000,40,yes\n")
 
     def test_staying_put_left_out(self):
         """State 0 moves half as often as q says: e^-1/2, not e^-1, stays."""
@@ -133,31 +152,31 @@ class Content(Judged):
         formula = b"P >= 500000000 U 1 up dead\n"
         right = REPORT_LINE + b"0,393469340,393469341,42,no\n1,1000000000,1000000000,42,yes\n"
         self.altered(b"393469340,393469341,42,no", b"632120558,632120559,42,yes",
-                     formula=formula, printed=right, moves=moves)
+                     formula=formula, first=right, moves=moves)
 
 
 class NextMove(Judged):
     """`X` at the top: both ends are determined, and the depth is 0."""
     RESTARTS = dict(moves=moves_text([(0, 0, 2), (0, 1, 1), (1, 1, 3)]))
     FORMULA = b"P >= 333333334 X dead\n"
-    PRINTED = REPORT_LINE + b"0,333333333,333333334,0,undecided\n1,1000000000,1000000000,0,yes\n"
+    FIRST = REPORT_LINE + b"0,333333333,333333334,0,undecided\n1,1000000000,1000000000,0,yes\n"
 
     def test_small_sheet(self):
         self.allows(b"P > 0 X dead\n", REPORT_LINE + b"0,1000000000,1000000000,0,yes\n1,0,0,0,no\n")
         self.refuses(b"P > 0 X dead\n", REPORT_LINE + b"0,1000000000,1000000000,0,yes\n1,1000000000,1000000000,0,yes\n")
 
     def test_a_restart_counts(self):
-        self.allows(self.FORMULA, self.PRINTED, **self.RESTARTS)
+        self.allows(self.FORMULA, self.FIRST, **self.RESTARTS)
         for old, new in ((b"333333333,333333334", b"1000000000,1000000000"), (b"333333333,", b"333333332,"), (b",333333334", b",333333335"),
                          (b"333333333,333333334", b"333333333,333333333"), (b"333333333,333333334", b"333333334,333333334"),
                          (b",0,undecided", b",0,no"), (b",0,undecided", b",40,undecided"), (b",0,yes", b",42,yes"),
                          (b"1,1000000000,1000000000,0,yes", b"1,0,0,0,no")):
-            self.assertIn(old, self.PRINTED)
-            self.refuses(self.FORMULA, self.PRINTED.replace(old, new, 1), **self.RESTARTS)
+            self.assertIn(old, self.FIRST)
+            self.refuses(self.FORMULA, self.FIRST.replace(old, new, 1), **self.RESTARTS)
 
     def test_until_leaves_restarts_out(self):
         """Rate 500 beside a restart as fast as can be: the bench value with q 500."""
-        self.allows(HOURS_8, HOURS_8_REPORT, moves=moves_text([(0, 0, 63_999_500), (0, 1, 500)]))
+        self.allows(HOURS_8, HOURS_8_ROWS, moves=moves_text([(0, 0, 63_999_500), (0, 1, 500)]))
         self.allows(until(MOST_HUNDREDTHS), REPORT_LINE + b"0,0,0,40,yes\n1,1000000000,1000000000,40,no\n", moves=moves_text([(0, 0, 64_000_000)]))
 
     def test_width(self):
@@ -165,23 +184,138 @@ class NextMove(Judged):
         self.assertEqual((allowed.depth, allowed.width), (0, 1))
 
     def test_refusals(self):
-        self.allows(b"P < 1 X dead up\n", b"refused\n10\n")
-        self.allows(b"P < 1000000001 X dead\n", b"refused\n13\n")
+        self.allows_whole(b"P < 1 X dead up\n", b"refused\n10\n")
+        self.allows_whole(b"P < 1000000001 X dead\n", b"refused\n13\n")
+
+
+class SecondListing(Judged):
+    """The rows once more, "by falling lower end, equal ones by rising state number", and nothing else behind the first listing."""
+    # Five states whose chances are 0, a third, 0, 1 and a third.
+    MOVES = moves_text([(1, 2, 2), (1, 3, 1), (2, 4, 1), (3, 3, 7), (4, 1, 1_000_000), (4, 3, 500_000)])
+    LABELS = labels_text([b"dead"], [[0], [0], [0], [1], [0]])
+    FORMULA = b"P >= 333333334 X dead\n"
+    LINES = [b"0,0,0,0,no\n", b"1,333333333,333333334,0,undecided\n", b"2,0,0,0,no\n", b"3,1000000000,1000000000,0,yes\n",
+             b"4,333333333,333333334,0,undecided\n"]
+
+    def print_of(self, *states, head=REPORT_LINE, rows=None):
+        """The print whose second listing has these states."""
+        lines = rows or self.LINES
+        return REPORT_LINE + b"".join(self.LINES) + head + b"".join(lines[state] for state in states)
+
+    def turned_down(self, printed):
+        self.refuses_whole(self.FORMULA, printed, moves=self.MOVES, labels=self.LABELS)
+
+    def test_in_order(self):
+        self.allows_whole(self.FORMULA, self.print_of(3, 1, 4, 0, 2), moves=self.MOVES, labels=self.LABELS)
+        self.assertEqual(self.print_of(3, 1, 4, 0, 2), twice(REPORT_LINE + b"".join(self.LINES)))
+
+    def test_every_other_order(self):
+        """Rising ends, ties by falling number and the first listing again among them."""
+        others = [order for order in permutations(range(5)) if order != (3, 1, 4, 0, 2)]
+        self.assertEqual(len(others), 119)
+        self.assertLessEqual({(0, 2, 1, 4, 3), (2, 0, 4, 1, 3), (3, 4, 1, 2, 0), (0, 1, 2, 3, 4)}, set(others))
+        for order in others:
+            with self.subTest(order):
+                self.turned_down(self.print_of(*order))
+
+    def test_a_row_twice_or_none(self):
+        for order in ((3, 1, 1, 0, 2), (3, 3, 4, 0, 2), (3, 1, 4, 0, 0), (3, 1, 4, 0), (3, 1, 4, 0, 2, 2), (3, 1, 4, 0, 2, 3), (3,), ()):
+            with self.subTest(order):
+                self.turned_down(self.print_of(*order))
+
+    def test_one_listing(self):
+        whole, first = self.print_of(3, 1, 4, 0, 2), REPORT_LINE + b"".join(self.LINES)
+        second = whole.removeprefix(first)
+        for printed in (first, second, second + first, whole + first, whole + second, first + first, first + b"\n" + second):
+            self.turned_down(printed)
+
+    def test_head(self):
+        for head in (b"", b"\n", REPORT_LINE[:-1], REPORT_LINE + REPORT_LINE, REPORT_LINE.upper(), b"state,lower,upper,depth\n", b" " + REPORT_LINE):
+            with self.subTest(head):
+                self.turned_down(self.print_of(3, 1, 4, 0, 2, head=head))
+
+    def test_other_rows(self):
+        """The same states in order, but one row is not that of the first listing."""
+        for state, line in ((0, b"0,0,1,0,undecided\n"), (1, b"1,333333333,333333334,0,no\n"), (3, b"3,1000000000,1000000000,40,yes\n"),
+                            (2, b"2,0,0,0,no \n"), (4, b"04,333333333,333333334,0,undecided\n"), (4, b"5,333333333,333333334,0,undecided\n")):
+            with self.subTest(line):
+                rows = [*self.LINES[:state], line, *self.LINES[state + 1:]]
+                self.turned_down(self.print_of(3, 1, 4, 0, 2, rows=rows))
+
+    def test_something_behind(self):
+        whole = self.print_of(3, 1, 4, 0, 2)
+        for behind in (b"\n", b" ", b"2,0,0,0,no\n", REPORT_LINE, b"refused\n1\n"):
+            self.turned_down(whole + behind)
+
+    def test_by_lower_end_alone(self):
+        """Upper ends and verdicts count nothing: a tie of no and undecided goes by number, either way round."""
+        labels, formula = labels_text([b"dead"], [[0], [0], [1]]), b"! P < 333333334 X dead\n"
+        no, open_ = b"%d,0,0,0,no\n", b"%d,0,1000000000,0,undecided\n"
+        for moves, lines in ((moves_text([(1, 1, 2), (1, 2, 1)]), (no % 0, open_ % 1, no % 2)),
+                             (moves_text([(0, 0, 2), (0, 2, 1)]), (open_ % 0, no % 1, no % 2))):
+            first = REPORT_LINE + b"".join(lines)
+            self.allows_whole(formula, first + first, moves=moves, labels=labels)
+            for order in permutations(lines):
+                if order != lines:
+                    self.refuses_whole(formula, first + REPORT_LINE + b"".join(order), moves=moves, labels=labels)
+
+    def test_small_sheet(self):
+        """It "prints three lines more: the names, state 1, state 0"; one listing, or the first again, is not enough."""
+        self.assertEqual(REPORT.splitlines()[3:], [b"state,lower,upper,depth,verdict", b"1,1000000000,1000000000,40,yes", b"0,0,0,40,no"])
+        first = REPORT[:len(REPORT) // 2]
+        self.refuses_whole(FORMULA, first)
+        self.refuses_whole(FORMULA, first + first)
+
+    def test_one_state(self):
+        row_, sheet = b"0,1000000000,1000000000,0,yes\n", dict(moves=NO_MOVES, labels=b"state\n0\n")
+        self.allows_whole(b"tt\n", (REPORT_LINE + row_) * 2, **sheet)
+        for printed in (REPORT_LINE + row_, REPORT_LINE + row_ * 2, (REPORT_LINE + row_) * 3, REPORT_LINE * 2 + row_ * 2):
+            self.refuses_whole(b"tt\n", printed, **sheet)
+
+    def test_judged_before_the_ways(self):
+        """A wrong order is told even where the ways to back a report are too many to try."""
+        moves, labels = texts(row(3, 500))
+        formula = b"P >= 1 U 0 tt P >= 3992000 U 8 up dead\n"
+        lines = [b"0,0,0,40,no\n", b"1,0,0,40,no\n", b"2,0,0,40,no\n"]
+        with mock.patch.object(backing, "MOST_WORK", 5):
+            with self.assertRaises(backing.TooMany):
+                judge(moves, labels, formula, twice(REPORT_LINE + b"".join(lines)))
+            wrong = REPORT_LINE + b"".join(lines) + REPORT_LINE + b"".join(lines[::-1])
+            self.assertIn("second listing, row 1", judge(moves, labels, formula, wrong)[0])
+
+
+class Order(unittest.TestCase):
+    def test_worst_first(self):
+        """Each stands above the next, and every state is there once."""
+        random = Random(19)
+        for _ in range(200):
+            lower = [random.choice((0, 0, 5, BILLION, random.randint(0, BILLION))) for _ in range(random.randint(1, 40))]
+            order = worst_first([Row(each, BILLION, 0, "undecided") for each in lower])
+            self.assertEqual(sorted(order), list(range(len(lower))))
+            for above, below in zip(order, order[1:]):
+                self.assertTrue(lower[above] > lower[below] or lower[above] == lower[below] and above < below, (lower, order))
+
+    def test_report_text_is_read_back(self):
+        random = Random(20)
+        for _ in range(50):
+            lower = random.choices((0, 7, 10, BILLION), k=random.randint(1, 9))
+            rows = [Row(low, random.randint(low, BILLION), 42, random.choice(WORDS)) for low in lower]
+            self.assertEqual(read_report(report_text(rows), len(rows)), rows)
 
 
 class FurtherThanDepth(Judged):
     """60 states in a row, rate 1, 1 hour."""
 
-    def printed(self, far_upper, far_verdict):
+    def first(self, far_upper, far_verdict):
         far = b"".join(b"%d,0,%d,42,%s\n" % (s, far_upper, far_verdict) for s in range(58))
         return REPORT_LINE + far + b"58,999,1000,42,yes\n59,1000000000,1000000000,42,yes\n"
 
     def test_upper_end(self):
         moves, labels = texts(row(60, 1))
         formula = b"P > 0 U 1 up dead\n"
-        self.allows(formula, self.printed(1, b"undecided"), moves=moves, labels=labels)
-        self.refuses(formula, self.printed(0, b"no"), moves=moves, labels=labels)
-        self.refuses(formula, self.printed(0, b"undecided"), moves=moves, labels=labels)
+        self.allows(formula, self.first(1, b"undecided"), moves=moves, labels=labels)
+        self.refuses(formula, self.first(0, b"no"), moves=moves, labels=labels)
+        self.refuses(formula, self.first(0, b"undecided"), moves=moves, labels=labels)
 
     def test_undecided_operand_is_not_no(self):
         """Under `!` an undecided operand taken as no turns into a false yes."""

@@ -25,6 +25,11 @@ class Commands(unittest.TestCase):
         self.assertEqual(self.run_with("judge", HOURS_8_REPORT, **SHEET), (0, "allowed\n"))
         status, told = self.run_with("judge", HOURS_8_REPORT.replace(b"yes", b"no"), **SHEET)
         self.assertEqual((status, told), (1, "state 0: verdict no does not follow from the ends\n"))
+        first = HOURS_8_REPORT[:len(HOURS_8_REPORT) // 2]
+        self.assertEqual(self.run_with("judge", first, **SHEET), (1, "3 lines, should be 6: two listings of 2 states\n"))
+        status, told = self.run_with("judge", first + first, **SHEET)
+        self.assertEqual(status, 1)
+        self.assertTrue(told.startswith("second listing, row 1: "), told)
 
     def test_refusal(self):
         self.assertEqual(self.run_with("refusal", **SHEET), (0, "accepted\n"))

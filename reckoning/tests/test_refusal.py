@@ -210,7 +210,7 @@ class Refusals(unittest.TestCase):
             (9, dict(moves=MOVES_LINE + b"0,1,0\n", formula=b"&\n")), (3, dict(moves=b"\n", labels=two)),
             (10, dict(labels=two, formula=b"& gas\n")), (12, dict(formula=OVER_HOURS.replace(b"up", b"gas"))),
             (13, dict(moves=FULL_MOVES, formula=b"& P < 1 U 2 up up " + OVER_HOURS)),
-            (14, dict(moves=FULL_MOVES, formula=b"& up P < 1 U 2 up up\n", lent=(0,) * 6)),
+            (14, dict(moves=FULL_MOVES, formula=b"& up P < 1 U 2 up up\n", lent=(0,) * len(Lent._fields))),
         ])
 
     def test_load(self):
@@ -222,7 +222,7 @@ class Refusals(unittest.TestCase):
                     (0, job(most // MOST_HUNDREDTHS, MOST_HUNDREDTHS)), *((14, job(*each)) for each in over)])
 
     def test_lent(self):
-        need = Lent(2, 2, 2, 1, 532, 6)
+        need = Lent(2, 2, 2, 2, 1, 532, 6)
         self.assertEqual(needed(refusal(MOVES, LABELS, FORMULA)), need)
         cases = [(0, dict(lent=need)), (0, dict(lent=tuple(length + 9 for length in need))),
                  (0, dict(moves=NO_MOVES, lent=need._replace(moves=0)))]

@@ -7,9 +7,9 @@ FOLDER = Path(__file__).resolve().parents[3] / "shared" / "vectors"
 MISSING = None if FOLDER.is_dir() else "the vectors are not there: no folder ../shared/vectors beside the repository"
 
 
-# The base's files and those of the requests that stand. The second request, "7 is never given again", leaves the base's lines alone but for
-# those that have this number.
-FILES = "refusals.jsonl", "reports.jsonl", "request-1.jsonl", "request-2.jsonl"
+# The base's files and those of the requests that stand. The second request, "7 is never given again", leaves the lines before it alone but for
+# those that have this number; the third leaves them all, since a line says nothing of listings.
+FILES = "refusals.jsonl", "reports.jsonl", "request-1.jsonl", "request-2.jsonl", "request-3.jsonl"
 NEVER_GIVEN = 7
 
 

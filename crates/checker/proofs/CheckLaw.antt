@@ -21,7 +21,6 @@ use Rattle.accepted.specs.Formula.{FormulaPassed, formula-passed}
 use Rattle.accepted.specs.Job.{refused-by-texts, refused-by-lengths, accepted-by-all, formula-too-long, refused-by-sheet, left-to-formula}
 use Rattle.bounds.specs.Found.{found, reportLower, reportUpper, report-found}
 use Rattle.verdicts.specs.Paper.{answerOf}
-use Rattle.verdicts.specs.declared.answer.Answer.the-variants.{Accepted}
 use Rattle.texts.specs.Span.{spanOf}
 use Rattle.formula.specs.Listed.{stored}
 use Rattle.formula.specs.Reading.{readingOf, reading-few}
@@ -40,7 +39,7 @@ use Rattle.refusals.specs.declared.sheet_tests.Dimensions.{Dimensions}
 use Rattle.refusals.specs.declared.sheet_tests.TestedSheet.{TestedSheet}
 use Rattle.checker.specs.declared.Checked.{Checked}
 use Rattle.checker.specs.Job.{statesIn}
-use Rattle.checker.specs.Checked.{turnedBack, SheetReady}
+use Rattle.checker.specs.Checked.{turnedBack, acceptedOver, SheetReady}
 use Rattle.checker.specs.Room.{has-room}
 use Rattle.checker.specs.Report.{formulaIn, ReportAsked, ReportLeft}
 
@@ -167,11 +166,11 @@ module _ (j : Job) (d : Dimensions) (r : SheetReady j d) where
                 }
 
             pub job-reported : {after : Buffers (List ℕ)} {depth : ℕ} → ReportLeft (j .moves) (j .labels) x before after depth
-                → Ended j before (record { answer = Accepted depth; states = d .states }) after
+                → {c : Checked} → c ≡ acceptedOver (d .states) depth → Ended j before c after
             unfolding FinishedBy chainOf
-            job-reported {after = after} {depth = depth} f =
+            job-reported {after = after} {depth = depth} f is =
                 let e = accepted-by-all j (lengths before) passes (sym short-is ∙ g) in
-                let l : ReportLeft (j .moves) (j .labels) x before after depth = f in (
+                let l : ReportLeft (j .moves) (j .labels) x before after depth = f in rw is (
                   by j before (acceptedWith depth) after e
                       (record {
                         lower = reportLower (jobChain j) (jobFormula j);

@@ -2,7 +2,7 @@
 use mathlib.Core.Path.{_≡_, refl, sym, ap, _∙_}
 use mathlib.Core.Bool.{Bool, true, false}
 use mathlib.Core.List.{List, _++_}
-use Prim.Native.Nat.{ℕ, _+_, _-_, _*_, _≤_}
+use Prim.Native.Nat.{ℕ, _+_, _-_, _*_, _≤_, _<_}
 use native.Mathlib.Omega.{arith}
 use native.Mathlib.Nat.{mul-le-mul, mul-le-mul-right}
 use lib.ListN.{length, take, drop, replicate, length-drop, length-replicate, List·getD-eq-default}
@@ -15,15 +15,19 @@ use Rattle.csl.specs.Labels.{namesOf, statesOf}
 use Rattle.csl.specs.Moves.{movesOf}
 use Rattle.csl.specs.Formula.{nodes, levels}
 use Rattle.csl.specs.Chain.{topRate}
+use Rattle.csl.specs.Order.{worstFirst}
 use Rattle.csl.specs.Lent.{Buffers, column, written}
-use Rattle.numbers.specs.Filled.{at, Table, table-at, table-rest, zeros-written}
+use Rattle.csl.specs.Laws.Order.{order-same}
+use Rattle.numbers.specs.Filled.{at, Table, table-at, table-rest, zeros-written, zeros-at}
 use Rattle.numbers.specs.Part.{front-length, front-at, front-beyond}
+use Rattle.bounds.specs.Found.{reportLower, reportUpper}
 use Rattle.formula.specs.Each.{nodes-some}
 use Rattle.formula.specs.Stored.{levels-nodes}
 use Rattle.formula.specs.declared.nodes.Nodes.{Nodes}
 use Rattle.vectors.specs.Places.{vectorLength}
 use Rattle.verdict_rows.specs.Row.{EndsIn}
-use Rattle.results.specs.Column.{column-as}
+use Rattle.results.specs.Column.{column-length, column-as, written-length, written-at}
+use Rattle.worst_first.specs.Asked.{SortAsked}
 use Rattle.refusals.specs.declared.sheet_tests.Dimensions.{Dimensions}
 use Rattle.sheet_words.specs.Stored.{StoreAsked, Stored}
 use Rattle.sheet_words.specs.Shown.{sheet-shown, sheet-owns, marks-shown}
@@ -182,24 +186,58 @@ module _ {m₀ labels : Text} {d : Dimensions} {x : Nodes} {before : Buffers (Li
           in-marks = omega (arith, r .room .marks, k .marks-same);
         }
 
-    pub left : {lower upper verdicts words' vectors' marks' : List ℕ}
-        → lower ≡ written (column (λ s. at vectors s) (d .states)) (before .lower)
-        → upper ≡ written (column (λ s. at vectors (d .states + s)) (d .states)) (before .upper)
-        → verdicts ≡ written (column (λ s. at marks s) (d .states)) (before .verdicts)
-        → Cleared (d .states) (d .moves) (x .count) words words' vectors vectors' marks marks'
-        → ReportLeft m₀ labels x before (buffers lower upper verdicts words' vectors' marks') depth
-    left lo up by z =
-        record {
-          deep = k .deep;
-          each = record {
-            lowers = column-as _ _ (statesOf labels) (before .lower) (k .lowers) (rw (states-are (r .ready)) at lo);
-            uppers = column-as _ _ (statesOf labels) (before .upper) (k .uppers) (rw (states-are (r .ready)) at up);
-            bytes = column-as _ _ (statesOf labels) (before .verdicts) (k .bytes) (rw (states-are (r .ready)) at by);
-            moves = cleared-beyond _ words (before .moves) (k .words-same) (k .words-beyond) (rw (moves-are (r .ready)) at (z .in-words));
-            vectors = cleared-beyond _ vectors (before .vectors) (k .vectors-same) (k .vectors-beyond) (rw (states-are (r .ready)) at (z .in-vectors));
-            marks = cleared-beyond _ marks (before .marks) (k .marks-same) (k .marks-beyond) (rw (states-are (r .ready)) at (z .in-marks));
-          };
-        }
+    module _ {lower upper words' vectors' marks' : List ℕ} (lo : lower ≡ written (column (λ s. at vectors s) (d .states)) (before .lower))
+        (up : upper ≡ written (column (λ s. at vectors (d .states + s)) (d .states)) (before .upper))
+        (z : Cleared (d .states) (d .moves) (x .count) words words' vectors vectors' marks marks') where
+      long-column : (f : ℕ → ℕ) (l : List ℕ) {new : List ℕ} → new ≡ written (column f (d .states)) l → d .states ≤ length l → d .states ≤ length new
+      long-column f l e h =
+          omega (arith, ap length e, written-length (column f (d .states)) l (omega (arith, column-length f (d .states))))
+
+      long-vectors : length vectors' ≡ length vectors
+      long-vectors =
+          ap length (z .in-vectors)
+          ∙ written-length (replicate (vectorLength (d .states)) 0) vectors
+          (omega (arith, length-replicate {A = ℕ} (vectorLength (d .states)) 0, r .room .vectors, k .vectors-same))
+
+      pub sort-asked : SortAsked (d .states) lower upper (before .order) vectors'
+      sort-asked =
+          record {
+            few = few-states (r .ready);
+            lowers = long-column _ (before .lower) lo (r .room .lower);
+            uppers = long-column _ (before .upper) up (r .room .upper);
+            room = r .room .order;
+            lent = omega (arith, long-vectors, k .vectors-same, r .room .vectors);
+            zeros = λ i b. ap (λ (l : List ℕ). at l i) (z .in-vectors) ∙ zeros-at (vectorLength (d .states)) vectors i (omega arith);
+          }
+
+      -- the ends in the result buffers are those that were decided, and so is their order
+      lower-at : (s : ℕ) → s < d .states → at lower s ≡ reportLower (chainIn m₀ labels) (formulaIn labels x) s
+      lower-at s b =
+          ap (λ (l : List ℕ). at l s) lo ∙ written-at (λ i. at vectors i) (d .states) (before .lower) s b ∙ k .lowers s (omega (arith, states-are (r .ready)))
+
+      upper-at : (s : ℕ) → s < d .states → at upper s ≡ reportUpper (chainIn m₀ labels) (formulaIn labels x) s
+      upper-at s b =
+          ap (λ (l : List ℕ). at l s) up
+          ∙ written-at (λ i. at vectors (d .states + i)) (d .states) (before .upper) s b
+          ∙ ap (λ (n : ℕ). at vectors (n + s)) (states-are (r .ready))
+          ∙ k .uppers s (omega (arith, states-are (r .ready)))
+
+      pub left : {verdicts order spare : List ℕ} → verdicts ≡ written (column (λ s. at marks s) (d .states)) (before .verdicts)
+          → order ≡ written (worstFirst (at lower) (at upper) (d .states)) (before .order) → spare ≡ vectors'
+          → ReportLeft m₀ labels x before (buffers lower upper verdicts order words' spare marks') depth
+      left by o e =
+          record {
+            deep = k .deep;
+            each = record {
+              lowers = column-as _ _ (statesOf labels) (before .lower) (k .lowers) (rw (states-are (r .ready)) at lo);
+              uppers = column-as _ _ (statesOf labels) (before .upper) (k .uppers) (rw (states-are (r .ready)) at up);
+              bytes = column-as _ _ (statesOf labels) (before .verdicts) (k .bytes) (rw (states-are (r .ready)) at by);
+              order = rw (states-are (r .ready)) at (o ∙ ap (λ (l : List ℕ). written l (before .order)) (order-same _ _ _ _ (d .states) lower-at upper-at));
+              moves = cleared-beyond _ words (before .moves) (k .words-same) (k .words-beyond) (rw (moves-are (r .ready)) at (z .in-words));
+              vectors = cleared-beyond _ vectors (before .vectors) (k .vectors-same) (k .vectors-beyond) (rw (states-are (r .ready)) at (e ∙ z .in-vectors));
+              marks = cleared-beyond _ marks (before .marks) (k .marks-same) (k .marks-beyond) (rw (states-are (r .ready)) at (z .in-marks));
+            };
+          }
 
 -- zeros in all that was worked in
 pub all-cleared : {n m k : ℕ} {words words' vectors vectors' marks marks' : List ℕ} {v : ℕ} → ClearAsked n m k words vectors marks → v ≡ vectorLength n

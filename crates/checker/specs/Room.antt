@@ -14,6 +14,7 @@ pub record HasRoom (n m k : ℕ) (l : Buffers ℕ) : Type 0 where
   pub lower : n ≤ l .lower
   pub upper : n ≤ l .upper
   pub verdicts : n ≤ l .verdicts
+  pub order : n ≤ l .order
   pub moves : m ≤ l .moves
   pub vectors : vectorLength n ≤ l .vectors
   pub marks : k * n ≤ l .marks
@@ -24,14 +25,16 @@ has-room l n m k h =
     let a = neither (ltb (l .lower) n) _ h in
     let b = neither (ltb (l .upper) n) _ (a .1) in
     let c = neither (ltb (l .verdicts) n) _ (b .1) in
-    let d = neither (ltb (l .moves) m) _ (c .1) in
-    let e = neither (ltb (l .vectors) (vectorLength n)) _ (d .1) in
-    let f = neither (ltb (l .marks) (k * n)) _ (e .1) in
+    let d = neither (ltb (l .order) n) _ (c .1) in
+    let e = neither (ltb (l .moves) m) _ (d .1) in
+    let f = neither (ltb (l .vectors) (vectorLength n)) _ (e .1) in
+    let g = neither (ltb (l .marks) (k * n)) _ (f .1) in
     record {
       lower = ltb-false _ _ (a .0);
       upper = ltb-false _ _ (b .0);
       verdicts = ltb-false _ _ (c .0);
-      moves = ltb-false _ _ (d .0);
-      vectors = ltb-false _ _ (e .0);
-      marks = ltb-false _ _ (f .0);
+      order = ltb-false _ _ (d .0);
+      moves = ltb-false _ _ (e .0);
+      vectors = ltb-false _ _ (f .0);
+      marks = ltb-false _ _ (g .0);
     }

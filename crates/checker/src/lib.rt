@@ -11,7 +11,7 @@ ghost use Rattle.csl.specs.Refusal.{outcome};
 ghost use Rattle.csl.specs.Finished.{Finished};
 ghost use Rattle.verdicts.specs.Paper.{answerOf};
 ghost use Rattle.checker.specs.Job.{job, buffers, statesIn};
-ghost use Rattle.checker.specs.Checked.{turnedBack, SheetReady};
+ghost use Rattle.checker.specs.Checked.{turnedBack, acceptedOver, SheetReady};
 
 // The answer to a job, and how many states a report has; none where the job is refused.
 pub struct Checked {
@@ -29,6 +29,16 @@ fn refused(number: u64) -> Checked
     }
 }
 
+// A job that is accepted, with its depth, over so many states.
+fn accepted(depth: u64, states: usize) -> Checked
+    ensures { λ r. ⌜ r ≡ acceptedOver states depth ⌝ }
+{
+    Checked {
+        answer: Answer::Accepted(depth),
+        states: states,
+    }
+}
+
 // Checks a job whose sheet passed its tests: those of its formula and of the lent lengths, then the report.
 fn check_formula(
     sheet: Dimensions,
@@ -38,6 +48,7 @@ fn check_formula(
     lower: &mut [u32],
     upper: &mut [u32],
     verdicts: &mut [u8],
+    order: &mut [u16],
     words: &mut [u64],
     vectors: &mut [u64],
     marks: &mut [u8],
@@ -45,13 +56,16 @@ fn check_formula(
     requires { ⌜ SheetReady (job (now moves) (now labels) (now formula)) sheet ⌝ }
     ensures finished { λ r. ⌜ Finished
         (job (now (moves .entry)) (now (labels .entry)) (now (formula .entry)))
-        (buffers (now (lower .entry)) (now (upper .entry)) (now (verdicts .entry)) (now (words .entry)) (now (vectors .entry)) (now (marks .entry)))
+        (buffers (now (lower .entry)) (now (upper .entry)) (now (verdicts .entry)) (now (order .entry))
+        (now (words .entry)) (now (vectors .entry)) (now (marks .entry)))
         (answerOf (r .answer))
-        (buffers (now (lower .exit)) (now (upper .exit)) (now (verdicts .exit)) (now (words .exit)) (now (vectors .exit)) (now (marks .exit))) ⌝ }
+        (buffers (now (lower .exit)) (now (upper .exit)) (now (verdicts .exit)) (now (order .exit))
+        (now (words .exit)) (now (vectors .exit)) (now (marks .exit))) ⌝ }
     ensures counted { λ r. ⌜ r .states ≡ statesIn (outcome
         (job (now (moves .entry)) (now (labels .entry)) (now (formula .entry)))
         (lengths
-        (buffers (now (lower .entry)) (now (upper .entry)) (now (verdicts .entry)) (now (words .entry)) (now (vectors .entry)) (now (marks .entry))))) ⌝ }
+        (buffers (now (lower .entry)) (now (upper .entry)) (now (verdicts .entry)) (now (order .entry))
+        (now (words .entry)) (now (vectors .entry)) (now (marks .entry))))) ⌝ }
 {
     let names = labels::names_part(labels, sheet.first);
     let read = refusals::test_formula(formula, names, sheet.names, sheet.q);
@@ -64,6 +78,7 @@ fn check_formula(
                 lower: lower.len(),
                 upper: upper.len(),
                 verdicts: verdicts.len(),
+                order: order.len(),
                 moves: words.len(),
                 vectors: vectors.len(),
                 marks: marks.len(),
@@ -79,20 +94,18 @@ fn check_formula(
                 lower,
                 upper,
                 verdicts,
+                order,
                 words,
                 vectors,
                 marks,
             );
-            Checked {
-                answer: Answer::Accepted(depth),
-                states: sheet.states,
-            }
+            accepted(depth, sheet.states)
         }
     }
 }
 
-// Checks a job. With n states and m move lines the caller lends n lower and upper numbers and verdict bytes, m move words, the vector words
-// that crates/vectors lays out, and n mark bytes for each node.
+// Checks a job. With n states and m move lines the caller lends n lower and upper numbers, verdict bytes and numbers for the order, m move
+// words, the vector words that crates/vectors lays out, and n mark bytes for each node.
 //
 // Open, as in document 01, are the two ends of a `P` (numbers that keep the rules for ends), and the verdicts and later ends that follow
 // from them. All else is determined, for all texts and lengths: refused or accepted, the number or the depth, and every place of every
@@ -104,19 +117,23 @@ pub fn check(
     lower: &mut [u32],
     upper: &mut [u32],
     verdicts: &mut [u8],
+    order: &mut [u16],
     words: &mut [u64],
     vectors: &mut [u64],
     marks: &mut [u8],
 ) -> Checked
     ensures finished { λ r. ⌜ Finished
         (job (now (moves .entry)) (now (labels .entry)) (now (formula .entry)))
-        (buffers (now (lower .entry)) (now (upper .entry)) (now (verdicts .entry)) (now (words .entry)) (now (vectors .entry)) (now (marks .entry)))
+        (buffers (now (lower .entry)) (now (upper .entry)) (now (verdicts .entry)) (now (order .entry))
+        (now (words .entry)) (now (vectors .entry)) (now (marks .entry)))
         (answerOf (r .answer))
-        (buffers (now (lower .exit)) (now (upper .exit)) (now (verdicts .exit)) (now (words .exit)) (now (vectors .exit)) (now (marks .exit))) ⌝ }
+        (buffers (now (lower .exit)) (now (upper .exit)) (now (verdicts .exit)) (now (order .exit))
+        (now (words .exit)) (now (vectors .exit)) (now (marks .exit))) ⌝ }
     ensures counted { λ r. ⌜ r .states ≡ statesIn (outcome
         (job (now (moves .entry)) (now (labels .entry)) (now (formula .entry)))
         (lengths
-        (buffers (now (lower .entry)) (now (upper .entry)) (now (verdicts .entry)) (now (words .entry)) (now (vectors .entry)) (now (marks .entry))))) ⌝ }
+        (buffers (now (lower .entry)) (now (upper .entry)) (now (verdicts .entry)) (now (order .entry))
+        (now (words .entry)) (now (vectors .entry)) (now (marks .entry))))) ⌝ }
 {
     if refusals::out_of_bytes(formula, limits::FORMULA_BYTES) {
         return refused(1);
@@ -133,6 +150,7 @@ pub fn check(
             lower,
             upper,
             verdicts,
+            order,
             words,
             vectors,
             marks,

@@ -64,15 +64,18 @@ pub fn report(
     lower: &mut [u32],
     upper: &mut [u32],
     verdicts: &mut [u8],
+    order: &mut [u16],
     words: &mut [u64],
     vectors: &mut [u64],
     marks: &mut [u8],
 ) -> u64
     requires { ⌜ ReportAsked (now moves) (now labels) sheet nodes
-        (buffers (now lower) (now upper) (now verdicts) (now words) (now vectors) (now marks)) ⌝ }
+        (buffers (now lower) (now upper) (now verdicts) (now order) (now words) (now vectors) (now marks)) ⌝ }
     ensures { λ r. ⌜ ReportLeft (now (moves .entry)) (now (labels .entry)) nodes
-        (buffers (now (lower .entry)) (now (upper .entry)) (now (verdicts .entry)) (now (words .entry)) (now (vectors .entry)) (now (marks .entry)))
-        (buffers (now (lower .exit)) (now (upper .exit)) (now (verdicts .exit)) (now (words .exit)) (now (vectors .exit)) (now (marks .exit)))
+        (buffers (now (lower .entry)) (now (upper .entry)) (now (verdicts .entry)) (now (order .entry))
+        (now (words .entry)) (now (vectors .entry)) (now (marks .entry)))
+        (buffers (now (lower .exit)) (now (upper .exit)) (now (verdicts .exit)) (now (order .exit))
+        (now (words .exit)) (now (vectors .exit)) (now (marks .exit)))
         r ⌝ }
 {
     let n = sheet.states;
@@ -81,5 +84,6 @@ pub fn report(
     let depth = decide_all(sheet, nodes, moves, labels, words, vectors, marks);
     results::write(vectors, marks, n, lower, upper, verdicts);
     clear_all(n, m, count, words, vectors, marks);
+    worst_first::sort(lower, upper, n, order, vectors);
     depth as u64
 }

@@ -1,9 +1,11 @@
 -- Document 01's bench values, and those of the requests: the jobs, and what is said of them. `Laws.Bench` shows it. Assumes nothing.
 use mathlib.Core.Path.{_≡_}
-use Prim.Native.Nat.{ℕ, zero, suc, _+_, _*_, _≤_}
+use Prim.Native.Nat.{ℕ, zero, suc, _+_, _*_, _%_, _≤_}
 use Prim.Native.String.{String}
-use mathlib.Core.Option.{some}
-use Rattle.csl.specs.Text.{bytes}
+use mathlib.Core.List.{List, [], _∷_, _++_}
+use mathlib.Core.Option.{none, some}
+use lib.ListN.{replicate}
+use Rattle.csl.specs.Text.{Text, bytes}
 use Rattle.csl.specs.Limits.{mostNodes, hour, mostHundredths, mostRateHundredths, rateHundredths}
 use Rattle.csl.specs.Formula.{Formula, always, label, negated, both, chance, Path, until, nextMove, Less, AtMost, AtLeast, More}
 use Rattle.csl.specs.Fraction.{Fraction, frac, Same}
@@ -13,7 +15,8 @@ use Rattle.csl.specs.Verdicts.{Verdict, Yes}
 use Rattle.csl.specs.Until.{untilQuotient}
 use Rattle.csl.specs.Backing.{AtEach}
 use Rattle.csl.specs.Report.{Reported, reportText, depthOf}
-use Rattle.csl.specs.Lent.{Buffers, needed}
+use Rattle.csl.specs.Order.{worstFirst}
+use Rattle.csl.specs.Lent.{Buffers, needed, lengths, filled}
 use Rattle.csl.specs.Refusal.{Job, jobStates, jobChain, jobFormula, refusal, outcome, accepted}
 
 -- a job over the labels of the small sheet
@@ -53,6 +56,19 @@ onlyRestarts formula = jobOf "from,to,rate\n0,0,64000000\n" formula
 abbrev pub enough : Buffers ℕ
 enough = needed 2 2 mostNodes
 
+-- the buffers for the small sheet and one node, with this order buffer
+abbrev pub lentAs : List ℕ → Buffers (List ℕ)
+lentAs order =
+    record {
+      lower = replicate 2 7;
+      upper = replicate 2 7;
+      verdicts = replicate 2 7;
+      order = order;
+      moves = replicate 1 7;
+      vectors = replicate 532 7;
+      marks = replicate 2 7;
+    }
+
 -- accepted, with this formula, q and depth
 abbrev pub Accepts : Job → Formula → ℕ → ℕ → Type 0
 Accepts j f q d = outcome j enough ≡ accepted (jobChain j) f q d
@@ -60,10 +76,14 @@ Accepts j f q d = outcome j enough ≡ accepted (jobChain j) f q d
 abbrev pub Refuses : Job → ℕ → Type 0
 Refuses j number = refusal j enough ≡ some number
 
--- every report that has a backing is printed so
-abbrev pub Prints : Job → String → Type 0
-Prints j text = (lower upper : ℕ → ℕ) (v : ℕ → Verdict) → Reported (jobChain j) (jobFormula j) lower upper v
-    → reportText (jobStates j) lower upper (depthOf (jobChain j) (jobFormula j)) v ≡ bytes text
+-- the line of names
+abbrev pub names : Text
+names = bytes "state,lower,upper,depth,verdict\n"
+
+-- every report that has a backing is printed so: the rows of its first listing and those of its second
+abbrev pub Prints : Job → String → String → Type 0
+Prints j first second = (lower upper : ℕ → ℕ) (v : ℕ → Verdict) → Reported (jobChain j) (jobFormula j) lower upper v
+    → reportText (jobStates j) lower upper (depthOf (jobChain j) (jobFormula j)) v ≡ names ++ bytes first ++ names ++ bytes second
 
 -- so many `!` before a formula
 unfoldable pub negatedTimes : ℕ → Formula → Formula
@@ -75,14 +95,14 @@ pub record BenchValues : Type 0 where
   -- "The small sheet as printed above."
   pub small-accepted : Accepts (small "P >= 1000000000 U 0 up dead\n") (chance AtLeast 1000000000 (until 0 up dead)) 500 40
   pub small-printed : Prints (small "P >= 1000000000 U 0 up dead\n")
-      "state,lower,upper,depth,verdict\n0,0,0,40,no\n1,1000000000,1000000000,40,yes\n"
+      "0,0,0,40,no\n1,1000000000,1000000000,40,yes\n" "1,1000000000,1000000000,40,yes\n0,0,0,40,no\n"
   -- "`tt`: yes twice, depth 0." "`& up ! dead`: yes, no."
   pub tt-accepted : Accepts (small "tt\n") always 500 0
   pub tt-printed : Prints (small "tt\n")
-      "state,lower,upper,depth,verdict\n0,1000000000,1000000000,0,yes\n1,1000000000,1000000000,0,yes\n"
+      "0,1000000000,1000000000,0,yes\n1,1000000000,1000000000,0,yes\n" "0,1000000000,1000000000,0,yes\n1,1000000000,1000000000,0,yes\n"
   pub both-accepted : Accepts (small "& up ! dead\n") (both up (negated dead)) 500 0
   pub both-printed : Prints (small "& up ! dead\n")
-      "state,lower,upper,depth,verdict\n0,1000000000,1000000000,0,yes\n1,0,0,0,no\n"
+      "0,1000000000,1000000000,0,yes\n1,0,0,0,no\n" "0,1000000000,1000000000,0,yes\n1,0,0,0,no\n"
   -- "`P <= 10000000 U 8 up dead`: .. depth 42"
   pub eight-hours : Accepts (small "P <= 10000000 U 8 up dead\n") (chance AtMost 10000000 (until eight up dead)) 500 42
   -- "q 64,000,000 and 1 hour: depth 168. 2 hours: 14."
@@ -91,7 +111,7 @@ pub record BenchValues : Type 0 where
   -- "No moves, 8,760 hours: q = 0, depth 40, ends 0 or 1,000,000,000."
   pub no-moves : Accepts (still "P >= 5 U 8760 up dead\n") (chance AtLeast 5 (until (8760 * hour) up dead)) 0 40
   pub no-moves-printed : Prints (still "P >= 5 U 8760 up dead\n")
-      "state,lower,upper,depth,verdict\n0,0,0,40,no\n1,1000000000,1000000000,40,yes\n"
+      "0,0,0,40,no\n1,1000000000,1000000000,40,yes\n" "1,1000000000,1000000000,40,yes\n0,0,0,40,no\n"
   -- "15 `!` before `up`: accepted. 16: 11."
   pub fifteen : Accepts (small "! ! ! ! ! ! ! ! ! ! ! ! ! ! ! up\n") (negatedTimes 15 up) 500 0
   pub sixteen : Refuses (small "! ! ! ! ! ! ! ! ! ! ! ! ! ! ! ! up\n") 11
@@ -134,7 +154,7 @@ pub record NextMoves : Type 0 where
   -- "a path formula may also be `X` and a state formula"; "depth is 0"
   pub next : Accepts (small "P >= 333333334 X dead\n") (chance AtLeast 333333334 (nextMove dead)) 500 0
   pub next-printed : Prints (small "P >= 333333334 X dead\n")
-      "state,lower,upper,depth,verdict\n0,1000000000,1000000000,0,yes\n1,0,0,0,no\n"
+      "0,1000000000,1000000000,0,yes\n1,0,0,0,no\n" "0,1000000000,1000000000,0,yes\n1,0,0,0,no\n"
   pub within-until : Accepts (small "P >= 5 U 8 up P > 5 X dead\n") (chance AtLeast 5 (until eight up (chance More 5 (nextMove dead)))) 500 42
   pub around-until : Accepts (small "P > 5 X P < 5 U 8 up dead\n") (chance More 5 (nextMove (chance Less 5 (until eight up dead)))) 500 0
   pub two-operands : Refuses (small "P < 1 X dead up\n") 10
@@ -147,17 +167,29 @@ pub record NextMoves : Type 0 where
   -- moves to the own state "are now read and stored", and "count in the exit rate for `X`": one third, "rounded down", "rounded up"
   pub restart : Accepts (restarts "P >= 333333334 X dead\n") (chance AtLeast 333333334 (nextMove dead)) 1 0
   pub restart-printed : Prints (restarts "P >= 333333334 X dead\n")
-      "state,lower,upper,depth,verdict\n0,333333333,333333334,0,undecided\n1,0,0,0,no\n"
+      "0,333333333,333333334,0,undecided\n1,0,0,0,no\n" "0,333333333,333333334,0,undecided\n1,0,0,0,no\n"
   -- "Until leaves them out of exit rates and q": out of the load, and of 14
   pub until-restart : Accepts (restarts "P < 1 U 1 up dead\n") (chance Less 1 (until hour up dead)) 1 42
   pub only-restarts : Accepts (onlyRestarts "P < 1 U 8760 up dead\n") (chance Less 1 (until (8760 * hour) up dead)) 0 40
   pub only-restarts-printed : Prints (onlyRestarts "P < 1 U 8760 up dead\n")
-      "state,lower,upper,depth,verdict\n0,0,0,40,yes\n1,1000000000,1000000000,40,no\n"
+      "0,0,0,40,yes\n1,1000000000,1000000000,40,no\n" "1,1000000000,1000000000,40,no\n0,0,0,40,yes\n"
   -- they count "in 9's sum", and in 6 and 8 like any move
   pub high-sum : Refuses (jobOf "from,to,rate\n0,0,64000000\n0,1,1\n" "tt\n") 9
   pub strange-restart : Refuses (jobOf "from,to,rate\n2,2,1\n" "tt\n") 6
   pub falling-restart : Refuses (jobOf "from,to,rate\n0,1,3\n0,0,2\n" "tt\n") 8
   pub twice : Refuses (jobOf "from,to,rate\n0,0,2\n0,0,2\n" "tt\n") 8
+
+-- The second listing and the order buffer, over the small sheet; its printed rows are above.
+pub record SecondListing : Type 0 where
+  -- "by falling lower end, equal ones by rising state number"
+  pub falling : worstFirst (λ s. s) (λ s. 5) 4 ≡ 3 ∷ 2 ∷ 1 ∷ 0 ∷ []
+  pub equal-ones : worstFirst (λ s. 5) (λ s. s) 4 ≡ 0 ∷ 1 ∷ 2 ∷ 3 ∷ []
+  pub both : worstFirst (λ s. s % 2) (λ s. s) 4 ≡ 1 ∷ 3 ∷ 0 ∷ 2 ∷ []
+  -- "A lent order buffer of n 16-bit numbers holds the state numbers in that order after acceptance", and beyond is unchanged
+  pub order-holds : filled 2 1 1 (λ s. s) (λ s. s) (λ s. Yes) (lentAs (7 ∷ 7 ∷ 7 ∷ [])) .order ≡ 1 ∷ 0 ∷ 7 ∷ []
+  -- "15 covers it too"
+  pub order-short : refusal (small "tt\n") (lengths (lentAs (7 ∷ []))) ≡ some 15
+  pub order-long : refusal (small "tt\n") (lengths (lentAs (7 ∷ 7 ∷ []))) ≡ none
 
 -- "`P <= 10000000 U 8 up dead`: .. lower ≤ 3,992,010, upper ≥ 3,992,011, width ≤ 168, yes at state 0", of every report
 pub record EightHours (lower upper : ℕ → ℕ) (v : ℕ → Verdict) : Type 0 where

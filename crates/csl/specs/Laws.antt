@@ -24,6 +24,8 @@ pub mod Settled
 pub mod Backing
 pub mod Throughout
 pub mod Grammar
+pub mod Order
+pub mod Listing
 pub mod Bench
 pub mod BenchNext
 pub mod Trial

@@ -21,6 +21,7 @@ pub mod Path
 pub mod Ends
 pub mod Backing
 pub mod Truth
+pub mod Order
 pub mod Report
 pub mod Lent
 pub mod Refusal

@@ -1,8 +1,8 @@
--- The report: ends, depth and verdict for each state, when a backing leads to it, and its listing. Assumes nothing.
+-- The report: ends, depth and verdict for each state, when a backing leads to it, and its two listings. Assumes nothing.
 use mathlib.Core.Path.{_≡_}
 use Prim.Native.Nat.{ℕ, zero, suc, _+_, _/_, _%_}
 use mathlib.Core.Bool.{true, false}
-use mathlib.Core.List.{[], _∷_, _++_}
+use mathlib.Core.List.{List, [], _∷_, _++_}
 use lib.Dec.{ltb}
 use Rattle.csl.specs.Text.{Text, bytes}
 use Rattle.csl.specs.Limits.{billion}
@@ -12,6 +12,7 @@ use Rattle.csl.specs.Chain.{Chain}
 use Rattle.csl.specs.Verdicts.{Verdict, No, Yes, Undecided}
 use Rattle.csl.specs.Path.{meaning}
 use Rattle.csl.specs.Backing.{AtEach, Backed, PathBacked, ChanceKeeps}
+use Rattle.csl.specs.Order.{byNumber, worstFirst}
 
 -- "the depth D of the outermost until"; "For an outermost node other than `P`, the depth is 0 .."
 unfoldable pub depthOf : Chain → Formula → ℕ
@@ -76,14 +77,19 @@ unfoldable pub rowText : ℕ → ℕ → ℕ → ℕ → Verdict → Text
 rowText s lower upper d v =
     decimal s ++ (comma ∷ decimal lower) ++ (comma ∷ decimal upper) ++ (comma ∷ decimal d) ++ (comma ∷ verdictWord v) ++ (lineFeed ∷ [])
 
--- the lines of the first n states
-unfoldable pub rowsText : ℕ → (lower upper : ℕ → ℕ) → ℕ → (ℕ → Verdict) → Text
-rowsText zero lower upper d v = []
-rowsText (suc n) lower upper d v = rowsText n lower upper d v ++ rowText n (lower n) (upper n) d (v n)
+-- the lines of these states, one after the other
+unfoldable pub rowsText : List ℕ → (lower upper : ℕ → ℕ) → ℕ → (ℕ → Verdict) → Text
+rowsText [] lower upper d v = []
+rowsText (s ∷ l) lower upper d v = rowText s (lower s) (upper s) d (v s) ++ rowsText l lower upper d v
 
--- "It prints the line `state,lower,upper,depth,verdict`, then these for each state in order"
+-- a listing of these states: "the line `state,lower,upper,depth,verdict`, then these for each"
+unfoldable pub listingText : List ℕ → (lower upper : ℕ → ℕ) → ℕ → (ℕ → Verdict) → Text
+listingText l lower upper d v = bytes "state,lower,upper,depth,verdict\n" ++ rowsText l lower upper d v
+
+-- "It prints .. these for each state in order"; "A second listing, printed after the first with the line of names again at its head, gives the
+-- same rows by falling lower end, equal ones by rising state number."
 unfoldable pub reportText : ℕ → (lower upper : ℕ → ℕ) → ℕ → (ℕ → Verdict) → Text
-reportText n lower upper d v = bytes "state,lower,upper,depth,verdict\n" ++ rowsText n lower upper d v
+reportText n lower upper d v = listingText (byNumber n) lower upper d v ++ listingText (worstFirst lower upper n) lower upper d v
 
 -- "A refusal prints `refused` and, on the next line, its number."
 unfoldable pub refusalText : ℕ → Text

@@ -25,9 +25,10 @@ use Rattle.csl.specs.Path.{meaning, valueAt, AllDecided, DecidedIn, Read
 use Rattle.csl.specs.Ends.{EndsAt}
 use Rattle.csl.specs.Backing.{AtEach, Backed, ChanceKeeps, operandsOf, NothingUndecided, SidesThroughout}
 use Rattle.csl.specs.Truth.{Obeys, Throughout}
+use Rattle.csl.specs.Order.{isAbove, worstFirst, Ranks, InOrder}
 use Rattle.csl.specs.Report.{Reported, backingOf}
 use Rattle.csl.specs.Refusal.{Job, jobChain}
-use Rattle.csl.specs.Bench.{small, up, dead, eight, Accepts, BenchValues, DecimalHours, NextMoves, EightHours, TrialQuotients}
+use Rattle.csl.specs.Bench.{small, up, dead, eight, Accepts, BenchValues, DecimalHours, NextMoves, SecondListing, EightHours, TrialQuotients}
 use Rattle.csl.specs.Laws.Computing.{computing}
 use Rattle.csl.specs.Laws.Fraction.{under-below}
 use Rattle.csl.specs.Laws.Steps.{step-le, step-rises, divisor-some}
@@ -42,6 +43,7 @@ use Rattle.csl.specs.Laws.Settled.{tables-agree, verdicts-obey}
 use Rattle.csl.specs.Laws.Backing.{kept-operands}
 use Rattle.csl.specs.Laws.Throughout.{throughout, sides, sides-throughout, Together, backings-agree}
 use Rattle.csl.specs.Laws.Grammar.{read-if-spelled, spelled-if-read}
+use Rattle.csl.specs.Laws.Order.{rows-rank, ordered-in-order, only-in-order, order-same}
 use Rattle.csl.specs.Laws.Bench as bench
 use Rattle.csl.specs.Laws.BenchNext as next-bench
 use Rattle.csl.specs.Laws.Trial as trial
@@ -137,8 +139,8 @@ pub decided-verdicts-are-a-table : (c : Chain) (f : Formula) (v : ℕ → Verdic
 decided-verdicts-are-a-table c f v k d =
     let o : Obeys c f (λ s. asNo (v s)) = verdicts-obey c f v k d in (o, throughout c f v (λ s. asNo (v s)) k o)
 
--- T4. The starred bench values, those of hours with decimals, of the next move and of moves to the own state, and `P <= 10000000 U 8 up dead`, of
--- every report that has a backing; and quotients as a second reckoning has them.
+-- T4. The starred bench values, those of hours with decimals, of the next move and of moves to the own state, of the second listing, and
+-- `P <= 10000000 U 8 up dead`, of every report that has a backing; and quotients as a second reckoning has them.
 pub starred-bench-values : BenchValues
 starred-bench-values = bench.bench-values
 
@@ -147,6 +149,9 @@ hours-with-decimals = bench.decimal-hours
 
 pub next-moves-and-restarts : NextMoves
 next-moves-and-restarts = next-bench.next-moves
+
+pub second-listing-and-order-buffer : SecondListing
+second-listing-and-order-buffer = bench.second-listing
 
 pub eight-hours-of-every-report : (lower upper : ℕ → ℕ) (v : ℕ → Verdict)
     → Reported (jobChain (small "P <= 10000000 U 8 up dead\n")) (chance AtMost 10000000 (until eight up dead)) lower upper v → EightHours lower upper v
@@ -271,6 +276,22 @@ module _ (c d : Chain) (e : SameElsewhere c d) where
   pub until-leaves-out-of-quotients : (t : ℕ) (first second : ℕ → Bool) (s n : ℕ)
       → untilQuotient c t first second s n ≡ untilQuotient d t first second s n
   until-leaves-out-of-quotients t first second s n = until-same-elsewhere e t first second s n
+
+-- T9. The second listing. Its relation is total and has no ties; so there is one listing of the states in its order, every state once and each
+-- above the next, and no other. It looks at the ends of the states below n alone.
+module _ (lower upper : ℕ → ℕ) (n : ℕ) where
+  pub rows-have-no-ties : Ranks (isAbove lower upper)
+  rows-have-no-ties = rows-rank lower upper
+
+  pub second-listing-is-in-order : InOrder (isAbove lower upper) n (worstFirst lower upper n)
+  second-listing-is-in-order = ordered-in-order (isAbove lower upper) rows-have-no-ties n
+
+  pub no-other-listing-is-in-order : (l : List ℕ) → InOrder (isAbove lower upper) n l → l ≡ worstFirst lower upper n
+  no-other-listing-is-in-order l h = only-in-order (isAbove lower upper) rows-have-no-ties n l h
+
+  pub order-is-of-the-states-below-n : (lower' upper' : ℕ → ℕ) → ((s : ℕ) → s < n → lower s ≡ lower' s)
+      → ((s : ℕ) → s < n → upper s ≡ upper' s) → worstFirst lower upper n ≡ worstFirst lower' upper' n
+  order-is-of-the-states-below-n lower' upper' h k = order-same lower upper lower' upper' n h k
 
 -- The reader of formulas is the grammar as document 01 lists it: tokens are read as a formula exactly where they spell it, so a text has
 -- at most one reading.

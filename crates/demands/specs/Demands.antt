@@ -1,4 +1,4 @@
--- The user's three demands, in their order and terms, of every job: three texts and six lent buffers, of all bytes and all lengths. A job is
+-- The user's three demands, in their order and terms, of every job: three texts and seven lent buffers, of all bytes and all lengths. A job is
 -- finished (csl's `Finished`) when its answer and its buffers are as document 01 has them; that is what `checker::check` promises, with no
 -- `requires`. What is stated here holds of every finished job. Assumes nothing.
 use mathlib.Core.Path.{_≡_}
@@ -7,6 +7,7 @@ use mathlib.Core.List.{List}
 use mathlib.Core.Logic.{_⊎_}
 use mathlib.Core.Option.{none, some}
 use Prim.Native.Nat.{ℕ, _+_, _*_, _≤_, _<_}
+use lib.ListN.{take, drop}
 use Rattle.csl.specs.Limits.{widthFactor}
 use Rattle.csl.specs.Moves.{ratesOut}
 use Rattle.csl.specs.Formula.{Formula, chance, Path, until, nextMove, PathOf, Comparison}
@@ -19,9 +20,10 @@ use Rattle.csl.specs.Next.{nextExitRate, nextFraction, nextLower, nextUpper}
 use Rattle.csl.specs.Path.{meaning, valueAt, AllDecided, DecidedIn, Reads}
 use Rattle.csl.specs.Backing.{Backed, ChanceKeeps, operandsOf, NothingUndecided, SidesThroughout}
 use Rattle.csl.specs.Truth.{Obeys, Throughout, ThroughoutIn}
+use Rattle.csl.specs.Order.{isAbove, InOrder}
 use Rattle.csl.specs.Report.{Reported, backingOf, depthOf}
 use Rattle.csl.specs.Lent.{Buffers, lengths}
-use Rattle.csl.specs.Refusal.{Job, jobMoves, jobChain, jobFormula, refusal, accepted, outcome}
+use Rattle.csl.specs.Refusal.{Job, jobStates, jobMoves, jobChain, jobFormula, refusal, accepted, outcome}
 use Rattle.csl.specs.Finished.{Answer, refusedWith, acceptedWith, Finished}
 use Rattle.csl.specs.Theorems as theorems
 use Rattle.accepted.specs.Rates.{others}
@@ -77,6 +79,18 @@ module _ (c : Chain) (r : Comparison) (p : ℕ) (w : Path) (lower upper : ℕ �
 
   pub no-other-verdict-follows : (x : Verdict) → Sides x r p (lower s) (upper s) → v s ≡ x
   no-other-verdict-follows x h = theorems.intervals-allow-one-verdict c r p w lower upper v k x s in-range h
+
+-- "A lent order buffer of n 16-bit numbers holds the state numbers in that order after acceptance": every state once, each above the next, and
+-- there is no other way to list them so; beyond is unchanged.
+module _ (j : Job) (before after : Buffers (List ℕ)) (lower upper : ℕ → ℕ) (v : ℕ → Verdict) (report : TheReport j before after lower upper v) where
+  pub order-buffer-is-in-order : InOrder (isAbove lower upper) (jobStates j) (take (jobStates j) (after .order))
+  order-buffer-is-in-order = proved.order-kept j before after lower upper v report
+
+  pub no-other-order : (l : List ℕ) → InOrder (isAbove lower upper) (jobStates j) l → l ≡ take (jobStates j) (after .order)
+  no-other-order l h = proved.order-alone j before after lower upper v report l h
+
+  pub order-buffer-beyond : drop (jobStates j) (after .order) ≡ drop (jobStates j) (before .order)
+  order-buffer-beyond = proved.order-beyond j before after lower upper v report
 
 -- Demand 3. "Every accepted job's report has a backing" (TheReport, above), "and for every backing, at every state: the outermost until's
 -- quotient at every depth from D on, for every reading, lies in the interval; width at most 4 × D billionths where no operand state is

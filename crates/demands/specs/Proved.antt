@@ -1,12 +1,13 @@
 -- What the demands say of the answer, from what a finished job is. Assumes nothing.
 use mathlib.Core.Path.{_≡_, refl, ap, sym, _∙_}
 use mathlib.Core.Bool.{Bool}
-use mathlib.Core.List.{List}
+use mathlib.Core.List.{List, _++_}
 use mathlib.Core.Logic.{_⊎_, inl, inr}
 use mathlib.Core.Option.{Option, none, some, Option·some-ne-none}
 use Prim.Native.Nat.{ℕ, _≤_}
 use native.Mathlib.Omega.{arith}
-use lib.ListN.{length}
+use lib.ListN.{length, take, drop}
+use lib.Seq.{take-at, drop-at}
 use Rattle.csl.specs.Moves.{ratesOut}
 use Rattle.csl.specs.Formula.{Formula, always, label, negated, both, chance, nodes}
 use Rattle.csl.specs.Chain.{Chain, exitRate, topRate}
@@ -14,10 +15,13 @@ use Rattle.csl.specs.Verdicts.{Verdict, Reading}
 use Rattle.csl.specs.Next.{nextExitRate}
 use Rattle.csl.specs.Backing.{Backed}
 use Rattle.csl.specs.Truth.{Obeys, Throughout}
+use Rattle.csl.specs.Order.{isAbove, worstFirst, InOrder}
 use Rattle.csl.specs.Report.{Reported, depthOf}
-use Rattle.csl.specs.Lent.{Buffers, lengths, filled}
+use Rattle.csl.specs.Lent.{Buffers, lengths, written, filled}
 use Rattle.csl.specs.Refusal.{Job, jobSheet, jobStates, jobMoves, jobChain, jobFormula, refusal, textRefusal, textTests, firstOf, accepted, outcome, outcomeBy}
 use Rattle.csl.specs.Finished.{Answer, refusedWith, acceptedWith, Finished, FinishedBy}
+use Rattle.csl.specs.Theorems as theorems
+use Rattle.csl.specs.Laws.Order.{ordered-length}
 use Rattle.accepted.specs.Order.{first-found}
 use Rattle.accepted.specs.Rates.{others}
 use Rattle.accepted.specs.Rates as rates
@@ -88,6 +92,28 @@ module _ (j : Job) (before : Buffers (List ℕ)) (a : Answer) (after : Buffers (
       ⊎ ((lower : ℕ → ℕ) × (upper : ℕ → ℕ) × (v : ℕ → Verdict) × (a ≡ acceptedWith (depthOf (jobChain j) (jobFormula j)))
       × TheReport j before after lower upper v)
   one-answer f = answered (refusal j (lengths before)) refl (by f)
+
+-- the order buffer after an accepted job
+module _ (j : Job) (before after : Buffers (List ℕ)) (lower upper : ℕ → ℕ) (v : ℕ → Verdict) (t : TheReport j before after lower upper v) where
+  order-is : after .order ≡ worstFirst lower upper (jobStates j) ++ drop (jobStates j) (before .order)
+  unfolding filled written
+  order-is =
+      ap (λ (b : Buffers (List ℕ)). b .order) (t .0)
+      ∙ ap (λ (k : ℕ). worstFirst lower upper (jobStates j) ++ drop k (before .order)) (ordered-length (isAbove lower upper) (jobStates j))
+
+  order-front : take (jobStates j) (after .order) ≡ worstFirst lower upper (jobStates j)
+  order-front =
+      ap (take (jobStates j)) order-is ∙ take-at (worstFirst lower upper (jobStates j)) _ (jobStates j) (ordered-length (isAbove lower upper) (jobStates j))
+
+  pub order-beyond : drop (jobStates j) (after .order) ≡ drop (jobStates j) (before .order)
+  order-beyond =
+      ap (drop (jobStates j)) order-is ∙ drop-at (worstFirst lower upper (jobStates j)) _ (jobStates j) (ordered-length (isAbove lower upper) (jobStates j))
+
+  pub order-kept : InOrder (isAbove lower upper) (jobStates j) (take (jobStates j) (after .order))
+  order-kept = rw order-front (theorems.second-listing-is-in-order lower upper (jobStates j))
+
+  pub order-alone : (l : List ℕ) → InOrder (isAbove lower upper) (jobStates j) l → l ≡ take (jobStates j) (after .order)
+  order-alone l h = theorems.no-other-listing-is-in-order lower upper (jobStates j) l h ∙ sym order-front
 
 -- a job that no test turns back
 module _ (j : Job) (lent : Buffers ℕ) (h : refusal j lent ≡ none) where

@@ -170,3 +170,9 @@ column-zeros (suc n) = rw (column-zeros n) (sym (replicate-snoc n))
 
 pub zeros-written : {old l : List ℕ} {n : ℕ} → n ≤ length old → Table (λ _. 0) old l n → l ≡ written (replicate n 0) old
 zeros-written {n = n} h t = rw (← column-zeros n) (table-written h t)
+
+pub zeros-at : (n : ℕ) (old : List ℕ) (k : ℕ) → k < n → at (written (replicate n 0) old) k ≡ 0
+unfolding written
+zeros-at n old k h =
+    rw (← column-zeros n)
+    (List·getD-append (column (λ _. 0) n) (drop (length (column (λ _. 0) n)) old) 0 k (omega (arith, column-length (λ _. 0) n)) ∙ column-at (λ _. 0) n k h)

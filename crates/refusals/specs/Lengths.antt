@@ -5,4 +5,12 @@ use Rattle.refusals.specs.declared.lengths.Lengths.{Lengths}
 
 abbrev pub lengthsOf : Lengths → Buffers ℕ
 lengthsOf l =
-    record { lower = l .lower; upper = l .upper; verdicts = l .verdicts; moves = l .moves; vectors = l .vectors; marks = l .marks }
+    record {
+      lower = l .lower;
+      upper = l .upper;
+      verdicts = l .verdicts;
+      order = l .order;
+      moves = l .moves;
+      vectors = l .vectors;
+      marks = l .marks;
+    }

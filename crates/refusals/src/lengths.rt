@@ -11,6 +11,7 @@ pub struct Lengths {
     pub lower: usize,
     pub upper: usize,
     pub verdicts: usize,
+    pub order: usize,
     pub moves: usize,
     pub vectors: usize,
     pub marks: usize,
@@ -22,7 +23,7 @@ pub fn too_short(lent: Lengths, sheet: Dimensions, nodes: usize) -> bool
     ensures { λ r. ⌜ r ≡ isShort (lengthsOf lent) (needed (sheet .states) (sheet .moves) nodes) ⌝ }
 {
     let n = sheet.states;
-    let results = (lent.lower < n) | (lent.upper < n) | (lent.verdicts < n);
+    let results = (lent.lower < n) | (lent.upper < n) | (lent.verdicts < n) | (lent.order < n);
     let words = (lent.moves < sheet.moves) | (lent.vectors < vectors::length(n));
     results | words | (lent.marks < nodes * n)
 }

@@ -1,20 +1,21 @@
 -- Whether a text fits, and what is left of it where it does and where it does not. Assumes nothing.
 use mathlib.Core.Path.{_≡_, refl, sym, ap, _∙_}
-use mathlib.Core.Bool.{Bool, true, false, not}
+use mathlib.Core.Bool.{Bool, true, false, not, _&&_, false≢true}
 use mathlib.Core.List.{List, [], _∷_}
-use Prim.Native.Nat.{ℕ, _+_, _-_, _≤_, _<_}
+use Prim.Native.Nat.{ℕ, _+_, _≤_, _<_}
 use native.Mathlib.Omega.{arith}
 use lib.ListN.{length, length-append}
 use lib.Dec.{leb}
-use borrow.Author.Tests.{le-leb, lt-leb, leb-true, leb-false, not-false}
+use borrow.Author.Tests.{le-leb, lt-leb, leb-true, not-true, not-false}
 use Rattle.csl.specs.Text.{Text, bytes}
 use Rattle.csl.specs.Line.{lineFeed}
-use Rattle.csl.specs.Report.{decimal, refusalText, reportText}
-use Rattle.csl.specs.Finished.{acceptedWith, answerText}
+use Rattle.csl.specs.Report.{decimal, refusalText}
+use Rattle.csl.specs.Finished.{acceptedWith}
 use Rattle.report.specs.Place.{writtenAt, Room, Wrote}
 use Rattle.report.proofs.WritingLaw.{wrote-more}
 use Rattle.report.specs.declared.Rendered.the-variants as rendered
-use Rattle.report.specs.Listing.{rows, listing, Complete}
+use Rattle.report.specs.declared.listings.Listing.the-variants.{ByNumber, WorstFirst}
+use Rattle.report.specs.Listing.{listings, listing, areStates, hasAll, Complete}
 use Rattle.report.specs.Rendering.{fits, Rendering}
 
 -- it does not, it does
@@ -49,56 +50,82 @@ refusal-shown n {old = old} e h w₁ w₂ w₃ =
     let q : length (refusalText n) ≤ length old = omega (arith, refusal-length n) in
     shown (le-leb (length (refusalText n)) (length old) q) (refusal-wrote n (omega arith) w₁ w₂ w₃)
 
-module _ (n d : ℕ) (l u b : List ℕ) where
-  -- a report: the first line, then the others
-  pub listing-length : length (listing n (acceptedWith d) l u b) ≡ 32 + length (rows n d l u b)
-  unfolding answerText reportText rows
-  listing-length = length-append (bytes "state,lower,upper,depth,verdict\n") (rows n d l u b)
+-- five tests that hold
+all-true : (a b c d e : Bool) → (a && b && c && d && e) ≡ true → (a ≡ true) × (b ≡ true) × (c ≡ true) × (d ≡ true) × (e ≡ true)
+all-true true true true true true h = (refl, refl, refl, refl, refl)
+all-true true true true true false h = absurd (false≢true h)
+all-true true true true false e h = absurd (false≢true h)
+all-true true true false d e h = absurd (false≢true h)
+all-true true false c d e h = absurd (false≢true h)
+all-true false b c d e h = absurd (false≢true h)
 
-  pub listing-wrote : {a r : ℕ} {old mid new : List ℕ} → 32 ≤ length old
-      → Wrote 0 (bytes "state,lower,upper,depth,verdict\n") old mid a → Wrote a (rows n d l u b) mid new r
-      → Wrote 0 (listing n (acceptedWith d) l u b) old new r
-  unfolding answerText reportText rows
-  listing-wrote h w v = wrote-more h w v
+module _ (n d : ℕ) (l u b o : List ℕ) where
+  -- the two listings: how long both are
+  both-length : length (listings n (acceptedWith d) l u b o) ≡ length (listing ByNumber n d l u b o) + length (listing WorstFirst n d l u b o)
+  unfolding listings listing
+  both-length = length-append (listing ByNumber n d l u b o) (listing WorstFirst n d l u b o)
 
-  pub rows-room : {a : ℕ} {old mid : List ℕ} {fit : Bool} → 32 ≤ length old → fit ≡ leb (length (rows n d l u b)) (length old - 32) → not fit ≡ false
-      → Wrote 0 (bytes "state,lower,upper,depth,verdict\n") old mid a → length mid ≡ length old → Room a (rows n d l u b) mid
-  rows-room {old = old} {fit = fit} h g e w q = omega (arith, leb-true (length (rows n d l u b)) (length old - 32) (sym g ∙ not-false fit e))
+  -- no room for the first, for the second, room for both
+  pub first-short : (room : ℕ) → room < length (listing ByNumber n d l u b o) → false ≡ leb (length (listings n (acceptedWith d) l u b o)) room
+  first-short room h = sym (lt-leb (length (listings n (acceptedWith d) l u b o)) room (omega (arith, both-length)))
 
-  -- what the tests say
-  pub few-lower : (room : ℕ) → length l < n → fits room n (acceptedWith d) l u b ≡ false
-  unfolding fits
-  few-lower room h = simp (lt-leb n (length l) h)
+  pub second-short : (room left : ℕ) → left + length (listing ByNumber n d l u b o) ≡ room → left < length (listing WorstFirst n d l u b o)
+      → false ≡ leb (length (listings n (acceptedWith d) l u b o)) room
+  second-short room left e h = sym (lt-leb (length (listings n (acceptedWith d) l u b o)) room (omega (arith, both-length)))
 
-  pub few-upper : (room : ℕ) → n ≤ length l → length u < n → fits room n (acceptedWith d) l u b ≡ false
-  unfolding fits
-  few-upper room p h = simp (le-leb n (length l) p, lt-leb n (length u) h)
+  pub both-fit : (room left rest : ℕ) → left + length (listing ByNumber n d l u b o) ≡ room → rest + length (listing WorstFirst n d l u b o) ≡ left
+      → true ≡ leb (length (listings n (acceptedWith d) l u b o)) room
+  both-fit room left rest e h = sym (le-leb (length (listings n (acceptedWith d) l u b o)) room (omega (arith, both-length)))
 
-  pub few-bytes : (room : ℕ) → n ≤ length l → n ≤ length u → length b < n → fits room n (acceptedWith d) l u b ≡ false
-  unfolding fits
-  few-bytes room p q h = simp (le-leb n (length l) p, le-leb n (length u) q, lt-leb n (length b) h)
+  -- they are no longer than the room where the test says that they fit
+  pub both-within : (room : ℕ) {fit : Bool} → fit ≡ leb (length (listings n (acceptedWith d) l u b o)) room → not fit ≡ false
+      → 0 + length (listings n (acceptedWith d) l u b o) ≤ room
+  both-within room {fit} f k = omega (arith, leb-true (length (listings n (acceptedWith d) l u b o)) room (sym f ∙ not-false fit k))
 
-  -- where all numbers are there the text decides
-  pub text-decides : (room : ℕ) → Complete n l u b → fits room n (acceptedWith d) l u b ≡ leb (length (listing n (acceptedWith d) l u b)) room
-  unfolding fits
-  text-decides room c = simp (le-leb n (length l) (c .lowers), le-leb n (length u) (c .uppers), le-leb n (length b) (c .bytes))
+  -- one written, then the other
+  module _ (old : List ℕ) (room : Room 0 (listings n (acceptedWith d) l u b o) old) where
+    pub first-room : Room 0 (listing ByNumber n d l u b o) old
+    first-room = omega (arith, both-length)
 
-  pub no-head : (room : ℕ) → Complete n l u b → room < 32 → fits room n (acceptedWith d) l u b ≡ false
-  no-head room c h = text-decides room c ∙ lt-leb _ room (omega (arith, listing-length))
+    pub second-room : {a : ℕ} {mid : List ℕ} → Wrote 0 (listing ByNumber n d l u b o) old mid a → length mid ≡ length old
+        → Room a (listing WorstFirst n d l u b o) mid
+    second-room w q = omega (arith, both-length)
 
-  pub no-rows : (room : ℕ) → Complete n l u b → 32 ≤ room → leb (length (rows n d l u b)) (room - 32) ≡ false
-      → fits room n (acceptedWith d) l u b ≡ false
-  no-rows room c h e =
-      text-decides room c ∙ lt-leb _ room (omega (arith, listing-length, leb-false (length (rows n d l u b)) (room - 32) e))
+    pub both-wrote : {a r : ℕ} {mid new : List ℕ} → Wrote 0 (listing ByNumber n d l u b o) old mid a
+        → Wrote a (listing WorstFirst n d l u b o) mid new r → Wrote 0 (listings n (acceptedWith d) l u b o) old new r
+    unfolding listings listing
+    both-wrote w v = wrote-more first-room w v
 
-  all-rows : (room : ℕ) → Complete n l u b → 32 ≤ room → leb (length (rows n d l u b)) (room - 32) ≡ true
-      → fits room n (acceptedWith d) l u b ≡ true
-  all-rows room c h e =
-      text-decides room c ∙ le-leb _ room (omega (arith, listing-length, leb-true (length (rows n d l u b)) (room - 32) e))
+  -- a report: a number is not there; all are, and the listings do not fit; they do
+  module _ {there : Bool} (t : there ≡ hasAll n l u b o) where
+    pub report-lacks : (old : List ℕ) → not there ≡ true
+        → Rendering (fits (length old) n (acceptedWith d) l u b o) (listings n (acceptedWith d) l u b o) old old rendered.Short
+    unfolding fits
+    report-lacks old h = short _ old (rw (sym t ∙ not-true there h) refl)
 
-  -- the report is shown
-  pub report-shown : {a r : ℕ} {old mid new : List ℕ} {fit : Bool} → Complete n l u b → 32 ≤ length old
-      → fit ≡ leb (length (rows n d l u b)) (length old - 32) → not fit ≡ false → Wrote 0 (bytes "state,lower,upper,depth,verdict\n") old mid a
-      → Wrote a (rows n d l u b) mid new r
-      → Rendering (fits (length old) n (acceptedWith d) l u b) (listing n (acceptedWith d) l u b) old new (rendered.Text r)
-  report-shown {old = old} {fit = fit} c h g e w v = shown (all-rows (length old) c h (sym g ∙ not-false fit e)) (listing-wrote h w v)
+    module _ (h : not there ≡ false) where
+      pub all-there : Complete n l u b o
+      all-there =
+          let e = all-true (leb n (length l)) (leb n (length u)) (leb n (length b)) (leb n (length o)) (areStates n o) (sym t ∙ not-false there h) in
+          record {
+            lowers = leb-true n (length l) (e .0);
+            uppers = leb-true n (length u) (e .1);
+            bytes = leb-true n (length b) (e .2);
+            places = leb-true n (length o) (e .3);
+            states = e .4;
+          }
+
+      module _ (old : List ℕ) {fit : Bool} (f : fit ≡ leb (length (listings n (acceptedWith d) l u b o)) (length old)) where
+        pub report-short : not fit ≡ true
+            → Rendering (fits (length old) n (acceptedWith d) l u b o) (listings n (acceptedWith d) l u b o) old old rendered.Short
+        unfolding fits
+        report-short k = short _ old (rw (sym t ∙ not-false there h) (sym f ∙ not-true fit k))
+
+        pub report-shown : not fit ≡ false → {r : ℕ} {new : List ℕ} → Wrote 0 (listings n (acceptedWith d) l u b o) old new r
+            → Rendering (fits (length old) n (acceptedWith d) l u b o) (listings n (acceptedWith d) l u b o) old new (rendered.Text r)
+        unfolding fits
+        report-shown k w = shown (rw (sym t ∙ not-false there h) (sym f ∙ not-false fit k)) w
+
+pub ruleset both-laws = (first-room, second-room, both-wrote)
+
+pub ruleset report-laws = (report-lacks, all-there, report-short, report-shown)

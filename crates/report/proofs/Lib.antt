@@ -2,5 +2,6 @@
 mod WritingLaw
 mod DigitsLaw
 mod PartsLaw
+mod StatesLaw
 mod LinesLaw
 mod FitsLaw

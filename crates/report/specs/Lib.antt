@@ -3,3 +3,4 @@ pub mod Place
 pub mod Decimal
 pub mod Listing
 pub mod Rendering
+pub mod Worst

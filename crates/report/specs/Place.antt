@@ -1,10 +1,12 @@
 -- A text at a place in a buffer: where it fits, and what the buffer holds after it was written there. Assumes nothing.
 use mathlib.Core.Path.{_≡_}
 use mathlib.Core.List.{List, _++_}
-use Prim.Native.Nat.{ℕ, _+_, _≤_}
+use Prim.Native.Nat.{ℕ, _+_, _≤_, _<_}
 use lib.ListN.{length, take, drop}
 use Rattle.csl.specs.Text.{Text}
 use Rattle.csl.specs.Lent.{written}
+use Rattle.report.specs.declared.listings.Remainder.{Remainder}
+use Rattle.report.specs.declared.listings.Remainder.the-variants.{Bytes, Short}
 
 -- a buffer whose bytes from `at` on are written over; those before and beyond are unchanged
 unfoldable pub writtenAt : ℕ → Text → List ℕ → List ℕ
@@ -18,3 +20,8 @@ Room at text old = at + length text ≤ length old
 pub record Wrote (at : ℕ) (text : Text) (old new : List ℕ) (next : ℕ) : Type 0 where
   pub after : next ≡ at + length text
   pub holds : new ≡ writtenAt at text old
+
+-- what the text leaves of a room
+abbrev pub Leaves : Text → ℕ → Remainder → Type 0
+Leaves text room (Bytes left) = left + length text ≡ room
+Leaves text room Short = room < length text

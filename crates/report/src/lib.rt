@@ -1,11 +1,16 @@
 // The text that a program prints for the answer to a job.
 mod bytes;
-mod listing;
+mod complete;
+mod listings;
 mod number;
+mod order;
 mod row;
 
 use bytes::write_byte;
 use bytes::write_bytes;
+use complete::has_all;
+use listings::listings_fit;
+use listings::write_listings;
 use number::decimal_length;
 use number::write_decimal;
 use verdicts::Answer;
@@ -20,12 +25,12 @@ ghost use Rattle.report.specs.Rendering.{Rendering, Printed};
 pub enum Rendered {
     // The text stands in the buffer's first bytes, so many.
     Text(usize),
-    // The buffer is too short for the text, or a slice for the states; the buffer is as it was.
+    // The buffer is too short for the text, or a slice for the states, or the order has a number that is no state's; the buffer is as it was.
     Short,
 }
 
-// Writes the text for an answer into `out`: of an accepted job the report on its states, whose ends and verdict bytes are in the slices; a
-// byte over 2 counts as undecided. A refusal takes nothing of the slices.
+// Writes the text for an answer into `out`: of an accepted job the two listings of its states, whose ends and verdict bytes are in the
+// slices, and whose order in the second listing is in `order`; a byte over 2 counts as undecided. A refusal takes nothing of the slices.
 pub fn render(
     out: &mut [u8],
     states: usize,
@@ -33,12 +38,15 @@ pub fn render(
     lower: &[u32],
     upper: &[u32],
     verdicts: &[u8],
+    order: &[u16],
 ) -> Rendered
-    ensures { λ r. ⌜ Printed states (answerOf answer)
-        (now (lower .entry)) (now (upper .entry)) (now (verdicts .entry)) (now (out .entry)) (now (out .exit)) r ⌝ }
+    ensures { λ r. ⌜ Printed states (answerOf answer) (now (lower .entry)) (now (upper .entry)) (now (verdicts .entry)) (now (order .entry))
+        (now (out .entry)) (now (out .exit)) r ⌝ }
 {
     match answer {
-        Answer::Accepted(depth) => render_report(out, states, depth, lower, upper, verdicts),
+        Answer::Accepted(depth) => {
+            render_report(out, states, depth, lower, upper, verdicts, order)
+        }
         Answer::Refused(number) => render_refusal(out, number),
     }
 }
@@ -64,25 +72,17 @@ fn render_report(
     lower: &[u32],
     upper: &[u32],
     verdicts: &[u8],
+    order: &[u16],
 ) -> Rendered
-    ensures { λ r. ⌜ Printed states (acceptedWith depth)
-        (now (lower .entry)) (now (upper .entry)) (now (verdicts .entry)) (now (out .entry)) (now (out .exit)) r ⌝ }
+    ensures { λ r. ⌜ Printed states (acceptedWith depth) (now (lower .entry)) (now (upper .entry)) (now (verdicts .entry)) (now (order .entry))
+        (now (out .entry)) (now (out .exit)) r ⌝ }
 {
-    if lower.len() < states {
+    if !has_all(states, lower, upper, verdicts, order) {
         return Rendered::Short;
     }
-    if upper.len() < states {
+    if !listings_fit(out.len(), states, depth, lower, upper, verdicts, order) {
         return Rendered::Short;
     }
-    if verdicts.len() < states {
-        return Rendered::Short;
-    }
-    if out.len() < 32 {
-        return Rendered::Short;
-    }
-    if !listing::rows_fit(out.len() - 32, states, depth, lower, upper, verdicts) {
-        return Rendered::Short;
-    }
-    let first = write_bytes(out, 0, b"state,lower,upper,depth,verdict\n");
-    Rendered::Text(listing::write_rows(out, first, states, depth, lower, upper, verdicts))
+    let length = write_listings(out, states, depth, lower, upper, verdicts, order);
+    Rendered::Text(length)
 }

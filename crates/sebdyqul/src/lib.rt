@@ -16,6 +16,7 @@ pub extern "C" fn sebdyqul_check(
     lower: &mut [u32],
     upper: &mut [u32],
     verdicts: &mut [u8],
+    order: &mut [u16],
     words: &mut [u64],
     vectors: &mut [u64],
     marks: &mut [u8],
@@ -23,9 +24,11 @@ pub extern "C" fn sebdyqul_check(
 ) -> u64
     ensures { λ r. ⌜ Called
         (job (now (moves .entry)) (now (labels .entry)) (now (formula .entry)))
-        (buffers (now (lower .entry)) (now (upper .entry)) (now (verdicts .entry)) (now (words .entry)) (now (vectors .entry)) (now (marks .entry)))
+        (buffers (now (lower .entry)) (now (upper .entry)) (now (verdicts .entry)) (now (order .entry))
+        (now (words .entry)) (now (vectors .entry)) (now (marks .entry)))
         (now (depth .entry)) r (now (depth .exit))
-        (buffers (now (lower .exit)) (now (upper .exit)) (now (verdicts .exit)) (now (words .exit)) (now (vectors .exit)) (now (marks .exit))) ⌝ }
+        (buffers (now (lower .exit)) (now (upper .exit)) (now (verdicts .exit)) (now (order .exit))
+        (now (words .exit)) (now (vectors .exit)) (now (marks .exit))) ⌝ }
 {
     let checked = checker::check(
         moves,
@@ -34,6 +37,7 @@ pub extern "C" fn sebdyqul_check(
         lower,
         upper,
         verdicts,
+        order,
         words,
         vectors,
         marks,

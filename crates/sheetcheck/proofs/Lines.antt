@@ -1,12 +1,14 @@
--- How long the printed text is at most, and that it depends on the results of the states alone. Assumes nothing.
-use mathlib.Core.Path.{_≡_, refl, ap}
-use mathlib.Core.List.{_++_}
-use Prim.Native.Nat.{ℕ, zero, suc, _*_, _≤_, _<_}
+-- How long the printed text is at most. Assumes nothing.
+use mathlib.Core.List.{List, [], _∷_}
+use Prim.Native.Nat.{ℕ, _*_, _≤_, _<_}
 use native.Mathlib.Omega.{arith}
 use lib.ListN.{length, length-append}
-use Rattle.csl.specs.Text.{bytes}
 use Rattle.csl.specs.Verdicts.{Verdict, No, Yes, Undecided}
-use Rattle.csl.specs.Report.{verdictWord, rowText, rowsText, reportText, refusalText}
+use Rattle.csl.specs.Order.{isAbove, worstFirst, byNumber, In}
+use Rattle.csl.specs.Order.In.{here, there}
+use Rattle.csl.specs.Report.{verdictWord, rowText, rowsText, listingText, reportText, refusalText}
+use Rattle.csl.specs.Laws.Order.{rows-rank, ordered-within, ordered-length}
+use Rattle.csl.specs.Laws.Listing.{by-number-within, by-number-length}
 use Rattle.report.specs.Decimal.{length-within}
 use Rattle.sheetcheck.proofs.Limits.{InRange}
 
@@ -30,43 +32,27 @@ row-few s l u d v a e b =
       word-few v,
     ))
 
-rows-few : (n : ℕ) (lower upper : ℕ → ℕ) (d : ℕ) (v : ℕ → Verdict) → n ≤ 1000 → ((s : ℕ) → s < n → InRange (lower s) (upper s)) → d < 1000
-    → length (rowsText n lower upper d v) ≤ 40 * n
-unfolding rowsText
-rows-few zero lower upper d v a e b = omega arith
-rows-few (suc n) lower upper d v a e b =
-    simp length-append
-    (omega (
-      arith,
-      rows-few n lower upper d v (omega arith) (λ s i. e s (omega arith)) b,
-      row-few n (lower n) (upper n) d (v n) (omega arith) (e n (omega arith)) b,
-    ))
+module _ (n : ℕ) (lower upper : ℕ → ℕ) (d : ℕ) (v : ℕ → Verdict) (a : n ≤ 512) (e : (s : ℕ) → s < n → InRange (lower s) (upper s)) (b : d ≤ 168) where
+  rows-few : (l : List ℕ) → ((s : ℕ) → In s l → s < n) → length (rowsText l lower upper d v) ≤ 40 * length l
+  unfolding rowsText
+  rows-few [] i = omega arith
+  rows-few (s ∷ l) i =
+      let h : s < n = i s here in
+      simp length-append
+      (omega (arith, rows-few l (λ t k. i t (there k)), row-few s (lower s) (upper s) d (v s) (omega arith) (e s h) (omega arith)))
 
-pub report-few : (n : ℕ) (lower upper : ℕ → ℕ) (d : ℕ) (v : ℕ → Verdict) → n ≤ 512 → ((s : ℕ) → s < n → InRange (lower s) (upper s)) → d ≤ 168
-    → length (reportText n lower upper d v) ≤ 20512
-unfolding reportText
-report-few n lower upper d v a e b =
-    simp length-append (omega (arith, rows-few n lower upper d v (omega arith) e (omega arith)))
+  pub report-few : length (reportText n lower upper d v) ≤ 41024
+  unfolding reportText listingText
+  report-few =
+      simp length-append
+      (omega (
+        arith,
+        rows-few (byNumber n) (by-number-within n),
+        by-number-length n,
+        rows-few (worstFirst lower upper n) (ordered-within _ (rows-rank lower upper) n),
+        ordered-length (isAbove lower upper) n,
+      ))
 
 pub refusal-few : (k : ℕ) → k < 100 → length (refusalText k) ≤ 11
 unfolding refusalText
 refusal-few k h = simp length-append (omega (arith, length-within 1 k (omega arith)))
-
--- results that agree below n
-rows-agree : (n : ℕ) (l₁ l₂ u₁ u₂ : ℕ → ℕ) (d : ℕ) (v₁ v₂ : ℕ → Verdict) → ((s : ℕ) → s < n → l₁ s ≡ l₂ s) → ((s : ℕ) → s < n → u₁ s ≡ u₂ s)
-    → ((s : ℕ) → s < n → v₁ s ≡ v₂ s) → rowsText n l₁ u₁ d v₁ ≡ rowsText n l₂ u₂ d v₂
-unfolding rowsText
-rows-agree zero l₁ l₂ u₁ u₂ d v₁ v₂ p q r = refl
-rows-agree (suc n) l₁ l₂ u₁ u₂ d v₁ v₂ p q r =
-    rw (
-      rows-agree n l₁ l₂ u₁ u₂ d v₁ v₂ (λ s i. p s (omega arith)) (λ s i. q s (omega arith)) (λ s i. r s (omega arith)),
-      p n (omega arith),
-      q n (omega arith),
-      r n (omega arith),
-    )
-
-pub report-agrees : (n : ℕ) (l₁ l₂ u₁ u₂ : ℕ → ℕ) (d : ℕ) (v₁ v₂ : ℕ → Verdict) → ((s : ℕ) → s < n → l₁ s ≡ l₂ s) → ((s : ℕ) → s < n → u₁ s ≡ u₂ s)
-    → ((s : ℕ) → s < n → v₁ s ≡ v₂ s) → reportText n l₁ u₁ d v₁ ≡ reportText n l₂ u₂ d v₂
-unfolding reportText
-report-agrees n l₁ l₂ u₁ u₂ d v₁ v₂ p q r =
-    ap (λ t. bytes "state,lower,upper,depth,verdict\n" ++ t) (rows-agree n l₁ l₂ u₁ u₂ d v₁ v₂ p q r)

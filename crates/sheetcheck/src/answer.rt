@@ -17,7 +17,7 @@ const VECTOR_WORDS: usize = limits::VECTOR_PLACES * MOST_STATES + limits::VECTOR
 const MARK_BYTES: usize = limits::MOST_NODES * MOST_STATES;
 
 // The length of a buffer that has room for every printed text.
-pub const TEXT_BYTES: usize = 32768;
+pub const TEXT_BYTES: usize = 65536;
 
 // What was written for a job.
 pub struct Written {
@@ -34,7 +34,7 @@ pub struct Written {
 // ends that follow from them. All else is determined, for all texts: refused or accepted, the number, the lines with all that they show
 // besides, and that `out` is as it was behind them.
 pub fn write_answer(moves: &[u8], labels: &[u8], formula: &[u8], out: &mut [u8]) -> Written
-    requires { ⌜ 32768 ≤ length (now out) ⌝ }
+    requires { ⌜ 65536 ≤ length (now out) ⌝ }
     ensures { λ r. ⌜ Counts (r .length) (now (out .exit)) ⌝ }
     ensures answered { λ r. ⌜ Answered (job (now (moves .entry)) (now (labels .entry)) (now (formula .entry)))
         (now (out .entry)) (now (out .exit)) r ⌝ }
@@ -42,6 +42,7 @@ pub fn write_answer(moves: &[u8], labels: &[u8], formula: &[u8], out: &mut [u8])
     let mut lower = [0u32; MOST_STATES];
     let mut upper = [0u32; MOST_STATES];
     let mut verdicts = [0u8; MOST_STATES];
+    let mut order = [0u16; MOST_STATES];
     let mut words = [0u64; MOST_MOVES];
     let mut vectors = [0u64; VECTOR_WORDS];
     let mut marks = [0u8; MARK_BYTES];
@@ -52,12 +53,21 @@ pub fn write_answer(moves: &[u8], labels: &[u8], formula: &[u8], out: &mut [u8])
         &mut lower,
         &mut upper,
         &mut verdicts,
+        &mut order,
         &mut words,
         &mut vectors,
         &mut marks,
     );
     let answer = checked.answer;
-    let rendered = report::render(out, checked.states, answer, &lower, &upper, &verdicts);
+    let rendered = report::render(
+        out,
+        checked.states,
+        answer,
+        &lower,
+        &upper,
+        &verdicts,
+        &order,
+    );
     Written {
         length: length_of(rendered),
         number: number_in(answer),

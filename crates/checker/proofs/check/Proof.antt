@@ -51,6 +51,9 @@ same-length-5 c = search needs
 same-length-6 : tie.Need-same-length-6
 same-length-6 c = search needs
 
+same-length-7 : tie.Need-same-length-7
+same-length-7 c = search needs
+
 returns-3 : tie.Need-returns-3
 returns-3 c = search needs
 
@@ -73,4 +76,5 @@ check-spec =
     same-length-4
     same-length-5
     same-length-6
+    same-length-7
     returns-3)

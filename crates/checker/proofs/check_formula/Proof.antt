@@ -6,16 +6,16 @@ use Rattle.checker.proofs.check_formula.Tie as tie
 
 -- from a place back to one before it: the formula tested, the lengths measured and found enough, the report made
 abbrev before-tested : tie.After-test-formula → tie.Start
-before-tested c = c .before .before .before .before .before .before .before .before .before .before .before
+before-tested c = c .before .before .before .before .before .before .before .before .before .before .before .before
 
 abbrev before-measured : tie.After-too-short → tie.After-test-formula
 before-measured c = c .before .before .before .before
 
-abbrev before-reported : tie.After-report-arg6 → tie.Else1
-before-reported c = c .before .before .before .before .before .before
+abbrev before-reported : tie.After-report-arg7 → tie.Else1
+before-reported c = c .before .before .before .before .before .before .before
 
-abbrev before-returned : tie.After-slice-known12 → tie.After-report
-before-returned c = c .before .before .before .before .before .before .before .before .before .before .before .before
+abbrev before-returned : tie.After-slice-known14 → tie.After-report
+before-returned c = c .before .before .before .before .before .before .before .before .before .before .before .before .before .before
 
 names-part-requires : tie.Need-names-part-requires
 names-part-requires c κs = search line-right
@@ -54,6 +54,9 @@ report-requires c κs =
     let read = before-measured measured in
     report-asked _ _ (before-tested read .pre) (read .before .names-part .ensures) (read .test-formula .ensures .0) (read .test-formula .ensures .1) (measured .before .enum-told .given .1) _ (measured .too-short .ensures) (enough .if1 .left)
 
+accepted-requires : tie.Need-accepted-requires
+accepted-requires c κs = search needs
+
 returns-2 : tie.Need-returns-2
 returns-2 c =
     let read = c .before .before .before .before .before in
@@ -77,13 +80,16 @@ same-length-5 c = search needs
 same-length-6 : tie.Need-same-length-6
 same-length-6 c = search needs
 
+same-length-7 : tie.Need-same-length-7
+same-length-7 c = search needs
+
 returns-3 : tie.Need-returns-3
 returns-3 c =
-    let reported = before-returned c in
+    let reported = before-returned (c .before) in
     let enough = before-reported (reported .before) in
     let measured = enough .before in
     let read = before-measured measured in
-    job-reported _ _ (before-tested read .pre) (read .before .names-part .ensures) (read .test-formula .ensures .0) (read .test-formula .ensures .1) (measured .before .enum-told .given .1) _ (measured .too-short .ensures) (enough .if1 .left) (reported .report .ensures)
+    job-reported _ _ (before-tested read .pre) (read .before .names-part .ensures) (read .test-formula .ensures .0) (read .test-formula .ensures .1) (measured .before .enum-told .given .1) _ (measured .too-short .ensures) (enough .if1 .left) (reported .report .ensures) (c .accepted .ensures)
 
 pub check-formula-spec : {M : Type 1} → statement M
 check-formula-spec =
@@ -98,6 +104,7 @@ check-formula-spec =
     refused-requires-2
     returns
     report-requires
+    accepted-requires
     returns-2
     same-length
     same-length-2
@@ -105,4 +112,5 @@ check-formula-spec =
     same-length-4
     same-length-5
     same-length-6
+    same-length-7
     returns-3)

@@ -1,8 +1,7 @@
--- The starred bench values, and those of hours with decimals, hold. Assumes nothing.
+-- The starred bench values, and those of hours with decimals and of the second listing, hold. Assumes nothing.
 use mathlib.Core.Path.{_≡_, refl, ap, _∙_}
 use mathlib.Core.Bool.{Bool, true, false, cond}
-use Prim.Native.Nat.{ℕ, _*_, _<_}
-use mathlib.Core.List.{_++_}
+use Prim.Native.Nat.{ℕ, zero, suc, _*_, _<_}
 use native.Mathlib.Omega.{arith}
 use Rattle.csl.specs.Text.{Text, bytes}
 use Rattle.csl.specs.Limits.{billion, hour}
@@ -10,10 +9,11 @@ use Rattle.csl.specs.Formula.{always, label, negated, both, chance, Path
 use Rattle.csl.specs.Chain.{Chain, topRate}
 use Rattle.csl.specs.Verdicts.{Verdict, No, Yes, marked, negation, conjunction, judged, asNo, asYes, Sides}
 use Rattle.csl.specs.Backing.{AtEach, ChanceKeeps, operandsOf}
-use Rattle.csl.specs.Report.{Reported, lowerOf, upperOf, rowText, rowsText, reportText}
+use Rattle.csl.specs.Report.{Reported, lowerOf, upperOf, reportText}
 use Rattle.csl.specs.Refusal.{jobChain}
-use Rattle.csl.specs.Bench.{small, still, up, negatedTimes, Prints, BenchValues, DecimalHours}
+use Rattle.csl.specs.Bench.{small, still, up, negatedTimes, Prints, BenchValues, DecimalHours, SecondListing}
 use Rattle.csl.specs.Laws.Computing.{computing}
+use Rattle.csl.specs.Laws.Listing.{report-same}
 use Rattle.csl.specs.Laws.PointEnds.{still-lower, still-upper}
 use Rattle.csl.specs.Laws.Enclosure.{ordered-ends}
 use Rattle.csl.specs.Laws.Sides.{one-verdict}
@@ -65,37 +65,45 @@ and-not-row c x y lower upper v k s l a b h j w i =
     ∙ rw (k .backed .first-backed s l, k .backed .second-backed .verdict s l, k .backed .second-backed .first-backed s l, h, j) i in
     record { lower-is = k .lowers s l ∙ rw e; upper-is = k .uppers s l ∙ rw e; verdict-is = e }
 
--- a listing of two rows
+-- the report of two rows
+abbrev pub pick : {A : Type 0} → A → A → ℕ → A
+pick a b zero = a
+pick a b (suc s) = b
+
 pub two-rows : (lower upper : ℕ → ℕ) (v : ℕ → Verdict) (d a b : ℕ) (x : Verdict) (a' b' : ℕ) (x' : Verdict)
-    → Row lower upper v 0 a b x → Row lower upper v 1 a' b' x'
-    → reportText 2 lower upper d v ≡ bytes "state,lower,upper,depth,verdict\n" ++ (rowText 0 a b d x ++ rowText 1 a' b' d x')
-unfolding reportText rowsText
+    → Row lower upper v 0 a b x → Row lower upper v 1 a' b' x' → reportText 2 lower upper d v ≡ reportText 2 (pick a a') (pick b b') d (pick x x')
 two-rows lower upper v d a b x a' b' x' h k =
-    rw (h .lower-is, h .upper-is, h .verdict-is, k .lower-is, k .upper-is, k .verdict-is) refl
+    report-same lower upper (pick a a') (pick b b') v (pick x x') 2 (two _ _ (h .lower-is) (k .lower-is)) (two _ _ (h .upper-is) (k .upper-is))
+    (two _ _ (h .verdict-is) (k .verdict-is)) d
+  where
+    two : {A : Type 0} (f g : ℕ → A) → f 0 ≡ g 0 → f 1 ≡ g 1 → (s : ℕ) → s < 2 → f s ≡ g s
+    two f g h k zero l = h
+    two f g h k (suc zero) l = k
+    two f g h k (suc (suc s)) l = absurd (omega arith)
 
 small-prints : Prints (small "P >= 1000000000 U 0 up dead\n")
-    "state,lower,upper,depth,verdict\n0,0,0,40,no\n1,1000000000,1000000000,40,yes\n"
+    "0,0,0,40,no\n1,1000000000,1000000000,40,yes\n" "1,1000000000,1000000000,40,yes\n0,0,0,40,no\n"
 unfolding computing
 small-prints lower upper v k =
     let row = still-row (jobChain (small "P >= 1000000000 U 0 up dead\n")) AtLeast billion 0 (bytes "up") (bytes "dead") lower upper v refl k in
     two-rows lower upper v 40 0 0 No billion billion Yes (row 0 (omega arith) false refl) (row 1 (omega arith) true refl)
 
 no-moves-prints : Prints (still "P >= 5 U 8760 up dead\n")
-    "state,lower,upper,depth,verdict\n0,0,0,40,no\n1,1000000000,1000000000,40,yes\n"
+    "0,0,0,40,no\n1,1000000000,1000000000,40,yes\n" "1,1000000000,1000000000,40,yes\n0,0,0,40,no\n"
 unfolding computing
 no-moves-prints lower upper v k =
     let row = still-row (jobChain (still "P >= 5 U 8760 up dead\n")) AtLeast 5 (8760 * hour) (bytes "up") (bytes "dead") lower upper v refl k in
     two-rows lower upper v 40 0 0 No billion billion Yes (row 0 (omega arith) false refl) (row 1 (omega arith) true refl)
 
 tt-prints : Prints (small "tt\n")
-    "state,lower,upper,depth,verdict\n0,1000000000,1000000000,0,yes\n1,1000000000,1000000000,0,yes\n"
+    "0,1000000000,1000000000,0,yes\n1,1000000000,1000000000,0,yes\n" "0,1000000000,1000000000,0,yes\n1,1000000000,1000000000,0,yes\n"
 unfolding computing
 tt-prints lower upper v k =
     let row = always-row (jobChain (small "tt\n")) lower upper v k in
     two-rows lower upper v 0 billion billion Yes billion billion Yes (row 0 (omega arith)) (row 1 (omega arith))
 
 both-prints : Prints (small "& up ! dead\n")
-    "state,lower,upper,depth,verdict\n0,1000000000,1000000000,0,yes\n1,0,0,0,no\n"
+    "0,1000000000,1000000000,0,yes\n1,0,0,0,no\n" "0,1000000000,1000000000,0,yes\n1,0,0,0,no\n"
 unfolding computing
 both-prints lower upper v k =
     let row = and-not-row (jobChain (small "& up ! dead\n")) (bytes "up") (bytes "dead") lower upper v k in
@@ -159,3 +167,7 @@ decimal-hours =
       load-rounded-up = refl;
       rateHundredths-is = refl;
     }
+
+pub second-listing : SecondListing
+unfolding computing
+second-listing = record { falling = refl; equal-ones = refl; both = refl; order-holds = refl; order-short = refl; order-long = refl }

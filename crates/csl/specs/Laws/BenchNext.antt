@@ -42,21 +42,21 @@ next-row c r p x lower upper v k s l a b e f =
     record { lower-is = low; upper-is = high; verdict-is = k .keeps .verdict s l ∙ rw (low, high) }
 
 next-prints : Prints (small "P >= 333333334 X dead\n")
-    "state,lower,upper,depth,verdict\n0,1000000000,1000000000,0,yes\n1,0,0,0,no\n"
+    "0,1000000000,1000000000,0,yes\n1,0,0,0,no\n" "0,1000000000,1000000000,0,yes\n1,0,0,0,no\n"
 unfolding computing
 next-prints lower upper v k =
     let row = next-row (jobChain (small "P >= 333333334 X dead\n")) AtLeast 333333334 (bytes "dead") lower upper v k in
     two-rows lower upper v 0 billion billion Yes 0 0 No (row 0 (omega arith) billion billion refl refl) (row 1 (omega arith) 0 0 refl refl)
 
 restart-prints : Prints (restarts "P >= 333333334 X dead\n")
-    "state,lower,upper,depth,verdict\n0,333333333,333333334,0,undecided\n1,0,0,0,no\n"
+    "0,333333333,333333334,0,undecided\n1,0,0,0,no\n" "0,333333333,333333334,0,undecided\n1,0,0,0,no\n"
 unfolding computing
 restart-prints lower upper v k =
     let row = next-row (jobChain (restarts "P >= 333333334 X dead\n")) AtLeast 333333334 (bytes "dead") lower upper v k in
     two-rows lower upper v 0 333333333 333333334 Undecided 0 0 No (row 0 (omega arith) 333333333 333333334 refl refl) (row 1 (omega arith) 0 0 refl refl)
 
 only-restarts-print : Prints (onlyRestarts "P < 1 U 8760 up dead\n")
-    "state,lower,upper,depth,verdict\n0,0,0,40,yes\n1,1000000000,1000000000,40,no\n"
+    "0,0,0,40,yes\n1,1000000000,1000000000,40,no\n" "1,1000000000,1000000000,40,no\n0,0,0,40,yes\n"
 unfolding computing
 only-restarts-print lower upper v k =
     let row = still-row (jobChain (onlyRestarts "P < 1 U 8760 up dead\n")) Less 1 (8760 * hour) (bytes "up") (bytes "dead") lower upper v refl k in

@@ -1,5 +1,5 @@
 -- `render` meets its contract: each arm by its case. Assumes nothing.
-use Rattle.csl.specs.Finished.{answerText}
+use Rattle.report.specs.Listing.{listings}
 use Rattle.report.specs.Rendering.{fits}
 use borrow.Author.Needs.{needs}
 use Rattle.report.proofs.render.Statement.{statement}
@@ -27,7 +27,7 @@ same-length-2 : tie.Need-same-length-2
 same-length-2 c = search needs
 
 returns-2 : tie.Need-returns-2
-unfolding fits answerText
+unfolding fits listings
 returns-2 c = rw (c .before .before .before .before .before .answer2 .given .1) (c .before .before .render-refusal .ensures)
 
 pub render-spec : {M : Type 1} → statement M

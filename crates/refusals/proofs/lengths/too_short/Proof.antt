@@ -12,7 +12,7 @@ mul-result : tie.Need-mul-result
 mul-result c =
     let measured = c .before in
     let known = measured .before .before .before in
-    let asked = known .before .before .before .pre in
+    let asked = known .before .before .before .before .pre in
     omega (arith, few-marks _ _ (asked .0) (asked .1))
 
 returns : tie.Need-returns

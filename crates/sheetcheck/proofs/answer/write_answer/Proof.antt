@@ -7,10 +7,10 @@ use Rattle.sheetcheck.proofs.answer.write_answer.Tie as tie
 
 -- from the place after a call back to the place after the call before it
 abbrev before-checked : tie.After-check → tie.Start
-before-checked c = c .before .before .before .before .before .before .before .before .before .before .before
+before-checked c = c .before .before .before .before .before .before .before .before .before .before .before .before
 
 abbrev before-rendered : tie.After-render → tie.After-check
-before-rendered c = c .before .before .before .before .before .before .before .before .before .before .before
+before-rendered c = c .before .before .before .before .before .before .before .before .before .before .before .before .before
 
 slice-aggregate-check : tie.Need-slice-aggregate-check
 slice-aggregate-check c = search needs
@@ -30,6 +30,9 @@ slice-aggregate-check-5 c = search needs
 slice-aggregate-check-6 : tie.Need-slice-aggregate-check-6
 slice-aggregate-check-6 c = search needs
 
+slice-aggregate-check-7 : tie.Need-slice-aggregate-check-7
+slice-aggregate-check-7 c = search needs
+
 check-requires : tie.Need-check-requires
 check-requires c κs = search needs
 
@@ -41,6 +44,9 @@ slice-aggregate-render-2 c = search needs
 
 slice-aggregate-render-3 : tie.Need-slice-aggregate-render-3
 slice-aggregate-render-3 c = search needs
+
+slice-aggregate-render-4 : tie.Need-slice-aggregate-render-4
+slice-aggregate-render-4 c = search needs
 
 render-requires : tie.Need-render-requires
 render-requires c κs = search needs
@@ -60,7 +66,7 @@ returns c =
     let checked = before-rendered rendered in
     text-answered _
     (answer-text _ _ _ _ _ _ _ _ (before-checked checked .pre) (rendered .render .ensures) (checked .check .ensures .0) (checked .check .ensures .1)
-    (record { lowers = omega arith; uppers = omega arith; bytes = omega arith; words = omega arith; vectors = omega arith; marks = omega arith }))
+    (record { lowers = omega arith; uppers = omega arith; bytes = omega arith; places = omega arith; words = omega arith; vectors = omega arith; marks = omega arith }))
     (c .before .length-of .ensures) (c .number-in .ensures)
 
 pub write-answer-spec : {M : Type 1} → statement M
@@ -73,10 +79,12 @@ write-answer-spec =
     slice-aggregate-check-4
     slice-aggregate-check-5
     slice-aggregate-check-6
+    slice-aggregate-check-7
     check-requires
     slice-aggregate-render
     slice-aggregate-render-2
     slice-aggregate-render-3
+    slice-aggregate-render-4
     render-requires
     length-of-requires
     number-in-requires
