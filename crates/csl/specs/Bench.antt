@@ -77,13 +77,13 @@ abbrev pub Refuses : Job → ℕ → Type 0
 Refuses j number = refusal j enough ≡ some number
 
 -- the line of names
-abbrev pub names : Text
-names = bytes "state,lower,upper,depth,verdict\n"
+abbrev pub lineOfNames : Text
+lineOfNames = bytes "state,lower,upper,depth,verdict\n"
 
 -- every report that has a backing is printed so: the rows of its first listing and those of its second
 abbrev pub Prints : Job → String → String → Type 0
 Prints j first second = (lower upper : ℕ → ℕ) (v : ℕ → Verdict) → Reported (jobChain j) (jobFormula j) lower upper v
-    → reportText (jobStates j) lower upper (depthOf (jobChain j) (jobFormula j)) v ≡ names ++ bytes first ++ names ++ bytes second
+    → reportText (jobStates j) lower upper (depthOf (jobChain j) (jobFormula j)) v ≡ lineOfNames ++ bytes first ++ lineOfNames ++ bytes second
 
 -- so many `!` before a formula
 unfoldable pub negatedTimes : ℕ → Formula → Formula

@@ -279,19 +279,19 @@ module _ (c d : Chain) (e : SameElsewhere c d) where
 
 -- T9. The second listing. Its relation is total and has no ties; so there is one listing of the states in its order, every state once and each
 -- above the next, and no other. It looks at the ends of the states below n alone.
-module _ (lower upper : ℕ → ℕ) (n : ℕ) where
+module _ (lower upper : ℕ → ℕ) where
   pub rows-have-no-ties : Ranks (isAbove lower upper)
   rows-have-no-ties = rows-rank lower upper
 
-  pub second-listing-is-in-order : InOrder (isAbove lower upper) n (worstFirst lower upper n)
-  second-listing-is-in-order = ordered-in-order (isAbove lower upper) rows-have-no-ties n
+  pub second-listing-is-in-order : (n : ℕ) → InOrder (isAbove lower upper) n (worstFirst lower upper n)
+  second-listing-is-in-order n = ordered-in-order (isAbove lower upper) rows-have-no-ties n
 
-  pub no-other-listing-is-in-order : (l : List ℕ) → InOrder (isAbove lower upper) n l → l ≡ worstFirst lower upper n
-  no-other-listing-is-in-order l h = only-in-order (isAbove lower upper) rows-have-no-ties n l h
+  pub no-other-listing-is-in-order : (n : ℕ) (l : List ℕ) → InOrder (isAbove lower upper) n l → l ≡ worstFirst lower upper n
+  no-other-listing-is-in-order n l h = only-in-order (isAbove lower upper) rows-have-no-ties n l h
 
-  pub order-is-of-the-states-below-n : (lower' upper' : ℕ → ℕ) → ((s : ℕ) → s < n → lower s ≡ lower' s)
+  pub order-is-of-the-states-below-n : (n : ℕ) (lower' upper' : ℕ → ℕ) → ((s : ℕ) → s < n → lower s ≡ lower' s)
       → ((s : ℕ) → s < n → upper s ≡ upper' s) → worstFirst lower upper n ≡ worstFirst lower' upper' n
-  order-is-of-the-states-below-n lower' upper' h k = order-same lower upper lower' upper' n h k
+  order-is-of-the-states-below-n n lower' upper' h k = order-same lower upper lower' upper' n h k
 
 -- The reader of formulas is the grammar as document 01 lists it: tokens are read as a formula exactly where they spell it, so a text has
 -- at most one reading.

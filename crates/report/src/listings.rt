@@ -1,6 +1,6 @@
 // The two listings of a report.
 use crate::bytes::write_bytes;
-use crate::order::wide;
+use crate::order::index;
 use crate::row::row_length;
 use crate::row::write_row;
 use verdicts::Verdict;
@@ -33,7 +33,7 @@ fn state_at(which: Listing, order: &[u16], place: usize) -> usize
 {
     match which {
         Listing::ByNumber => place,
-        Listing::WorstFirst => wide(order[place]),
+        Listing::WorstFirst => index(order[place]),
     }
 }
 

@@ -5,7 +5,7 @@ ghost use lib.ListN.{length};
 ghost use Rattle.report.specs.Listing.{areStates};
 
 // A number of the order, as a place in the other slices.
-pub fn wide(number: u16) -> usize
+pub fn index(number: u16) -> usize
     ensures { λ r. ⌜ r ≡ number ⌝ }
 {
     number as usize
@@ -18,7 +18,7 @@ pub fn are_states(states: usize, order: &[u16]) -> bool
 {
     let mut i: usize = 0;
     while i < states {
-        if states <= wide(order[i]) {
+        if states <= index(order[i]) {
             return false;
         }
         i += 1;

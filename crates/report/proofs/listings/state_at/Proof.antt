@@ -9,20 +9,20 @@ enum-told c = search needs
 enum-told-2 : tie.Need-enum-told-2
 enum-told-2 c = search needs
 
-mul-wide : tie.Need-mul-wide
-mul-wide c = search needs
+mul-index : tie.Need-mul-index
+mul-index c = search needs
 
-shared-slice-read-wide : tie.Need-shared-slice-read-wide
-shared-slice-read-wide c = search needs
+shared-slice-read-index : tie.Need-shared-slice-read-index
+shared-slice-read-index c = search needs
 
-wide-requires : tie.Need-wide-requires
-wide-requires c κs = search needs
+index-requires : tie.Need-index-requires
+index-requires c κs = search needs
 
 returns : tie.Need-returns
 returns c = search needs
 
 returns-2 : tie.Need-returns-2
-returns-2 c = rw (c .before .before .enum-told2 .given .1) (c .wide .ensures)
+returns-2 c = rw (c .before .before .enum-told2 .given .1) (c .index .ensures)
 
 pub state-at-spec : {M : Type 1} → statement M
 state-at-spec =
@@ -30,8 +30,8 @@ state-at-spec =
     (tie.spec
     enum-told
     enum-told-2
-    mul-wide
-    shared-slice-read-wide
-    wide-requires
+    mul-index
+    shared-slice-read-index
+    index-requires
     returns
     returns-2)
