@@ -8,7 +8,7 @@ from reckoning.__main__ import read_texts
 from reckoning.formula import hours_text
 from reckoning.limits import HOUR, MOST_HUNDREDTHS, MOST_MOVES, MOST_NODES, MOST_RATE, MOST_STATES
 from reckoning.refusal import BY_TEXTS, Lent, lengths, needed, refusal
-from reckoning.sheets import FORMULA, LABELS, MOVES, NO_MOVES, labels_text, moves_text
+from reckoning.sheets import FAST_MOVES, FORMULA, LABELS, MOVES, NO_MOVES, labels_text, moves_text
 from tests import edges, orders
 from tests.agreement import elements, library_faults, printed, refusal_number, rows_of, tried
 from tests.jobs import damaged_job, random_job
@@ -16,6 +16,7 @@ from tests.library import ENOUGH, GUARD, KINDS, MORE, Library
 from tests.mutations import bent_job
 from tests.places import FOLDERS
 from tests.program import run
+from tests.small_formulas import SMALL_FORMULAS
 
 DAMAGED = 3_000
 MADE = 600
@@ -55,6 +56,11 @@ class Jobs(LibraryTest):
         called, judged = zip(*(self.agrees(random_job(rng)) for _ in range(MADE)))
         self.assertGreater(sum(judged), 0.9 * MADE)
         self.assertEqual({each.number for each in called}, {0})
+
+    def test_small_formulas(self):
+        """Over the small sheet and with q 64,000,000: reports, and every number that a formula can earn but 11."""
+        numbers = {self.agrees((moves, LABELS, formula))[0].number for moves in (MOVES, FAST_MOVES) for formula in SMALL_FORMULAS}
+        self.assertEqual(numbers, {0, 1, 10, 12, 13, 14})
 
     def test_limits(self):
         for name, (meets, passes) in edges.pairs().items():
