@@ -54,6 +54,11 @@ def rates(total):
     return moves_text([(0, 1, half), (0, 2, total - half)]), labels_text([], [[]] * 3), b"tt\n"
 
 
+def rates_out(rates):
+    """Moves with these rates out of state 0, its own state first, among as many states."""
+    return moves_text([(0, to, rate) for to, rate in enumerate(rates)]), labels_text([], [[]] * len(rates)), b"tt\n"
+
+
 def restarts(total):
     """A move to the own state and one to another, whose rates add up to so much."""
     return moves_text([(0, 0, total - 500), (0, 1, 500)]), LABELS, until(MOST_HUNDREDTHS)

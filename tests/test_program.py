@@ -5,7 +5,7 @@ import subprocess
 import unittest
 
 from reckoning.judge import judge
-from reckoning.limits import BILLION, HOUR, MOST_HUNDREDTHS, MOST_LEVELS, MOST_RATE
+from reckoning.limits import BILLION, HOUR, MOST_HUNDREDTHS, MOST_LEVELS, MOST_MOVES, MOST_RATE, MOST_STATES
 from reckoning.refusal import BY_TEXTS
 from reckoning.report import read_report, refused
 from reckoning.sheets import (FAST_MOVES, FORMULA, FULL_MOVES, HOURS_8, LABELS, MOVES, NO_MOVES, REPORT, REPORT_LINE, labels_text, moves_text,
@@ -153,6 +153,23 @@ class Program(unittest.TestCase):
             question = b"P >= 500000000 U 1 %s %s\n" % (rng.choice(sheet.names), rng.choice(sheet.names))
             others = moves_text([(a, b, rate) for a, b, rate in sheet.moves if a != b])
             self.assertEqual(run((sheet.moves_text, sheet.labels_text, question)), run((others, sheet.labels_text, question)))
+
+    def test_sums_past_32_bits(self):
+        """Sums that 32 bits do not hold, most of which would come round to a few: rates of nine digits, rates within the limit, up to as many as
+        one state can have, and thousands on one state, which the order of tests gives another number."""
+        most, round_once = 10**9 - 1, 2**32 + 5
+        few, full = [most] * 4, [most] * (MOST_STATES - 1)
+        within = [MOST_RATE - 1] * (round_once // (MOST_RATE - 1))
+        for rates in (few + [round_once - sum(few)], [round_once - sum(few)] + few, within + [round_once - sum(within)],
+                      full + [most], full + [(5 - sum(full)) % 2**32], [1] + full):
+            self.assertTrue(all(0 < rate <= most for rate in rates))
+            self.assertGreater(sum(rates), 2**32)
+            self.assertEqual(run(edges.rates_out(rates)), refused(9))
+        even = [MOST_RATE // MOST_STATES] * MOST_STATES
+        self.assertEqual(run(edges.rates_out(even)).count(b",yes\n"), 2 * MOST_STATES)
+        self.assertEqual(run(edges.rates_out(even[:-1] + [even[-1] + 1])), refused(9))
+        self.assertEqual(run(edges.typed(b"\n".join([b"0,1,%d" % most] * MOST_MOVES))), refused(8))
+        self.assertEqual(run(edges.typed(b"\n".join(b"0,%d,%d" % (to, most) for to in range(3_500)))), refused(6))
 
     def test_worst_state_at_the_top(self):
         """The small sheet "prints three lines more: the names, state 1, state 0", which makes six; a refusal prints two as before."""

@@ -8,8 +8,8 @@ MISSING = None if FOLDER.is_dir() else "the vectors are not there: no folder ../
 
 
 # The base's files and those of the requests that stand. The second request, "7 is never given again", leaves the lines before it alone but for
-# those that have this number; the third leaves them all, since a line says nothing of listings.
-FILES = "refusals.jsonl", "reports.jsonl", "request-1.jsonl", "request-2.jsonl", "request-3.jsonl"
+# those that have this number; the third leaves them all, since a line says nothing of listings, and the fourth, since every job keeps its answer.
+FILES = "refusals.jsonl", "reports.jsonl", "request-1.jsonl", "request-2.jsonl", "request-3.jsonl", "request-4.jsonl"
 NEVER_GIVEN = 7
 
 

@@ -1,20 +1,21 @@
--- The rates of rising moves, state by state: what is carried tells the totals. Assumes nothing.
+-- The rates of rising moves, state by state: what is carried tells the totals. A sum that is too high is carried as `tooHigh`, whatever it
+-- comes to, so sums are compared up to that. Assumes nothing.
 use mathlib.Core.Path.{_≡_, refl, sym, ap, _∙_}
-use Prim.Native.Nat.{ℕ, _+_, _*_, _≤_, _<_, max}
+use Prim.Native.Nat.{ℕ, _+_, _≤_, _<_, max}
 use native.Mathlib.Omega.{arith}
 use native.Mathlib.Nat.{le-refl}
 use mathlib.Core.Bool.{Bool, true, false, cond, _&&_, _||_, or-false, or-true, and-eq-true-iff}
 use mathlib.Core.List.{List, [], _∷_}
 use mathlib.Core.Logic.{_⊎_, inl, inr, ⊎-elim}
-use Rattle.accepted.specs.Rates.{Within, within-tested, others}
+use Rattle.accepted.specs.Rates.{Within, within-tested, rates-tested, others, others-slower}
 use Rattle.numbers.specs.Sum.{greatest-le, greatest-most}
 use Rattle.csl.specs.Chain.{greatest}
 use lib.Dec.{ltb, eqb}
-use borrow.Author.Tests.{lt-ltb, eq-eqb, ne-eqb, ltb-true, ltb-false, eqb-true, eqb-false}
+use borrow.Author.Tests.{lt-ltb, le-ltb, eq-eqb, ne-eqb, ltb-true, ltb-false, eqb-true, eqb-false}
 use Rattle.csl.specs.Text.{any}
 use Rattle.csl.specs.Limits.{billion, mostRate, sheetBytes}
 use Rattle.csl.specs.Moves.{Move, isBefore, isRising, ratesOut}
-use Rattle.moves.specs.Totals.{sumAfter, awayShare, totalsBegun, totalsAdded, totalsOver, TotalsFit, TotalsWithin}
+use Rattle.moves.specs.Totals.{tooHigh, carried, sumAfter, awayShare, totalsBegun, totalsAdded, totalsOver, TotalsFit, TotalsWithin}
 use Rattle.csl.specs.Refusal.{strangeState, wrongRate}
 use Rattle.moves.specs.declared.totals.Totals.{Totals}
 
@@ -80,7 +81,8 @@ out-away (m ∷ ms) s = go (eqb (m .from) (m .to)) (eqb (m .from) s) refl (out-a
 abbrev wrongBy : (ℕ → ℕ) → Move → Bool
 wrongBy f m = eqb (m .rate) 0 || ltb mostRate (f (m .from))
 
-any-cong : (f g : ℕ → ℕ) (k : ℕ) (ms : List Move) → AllFrom k ms → ((s : ℕ) → k ≤ s → f s ≡ g s) → any (wrongBy f) ms ≡ any (wrongBy g) ms
+any-cong : (f g : ℕ → ℕ) (k : ℕ) (ms : List Move) → AllFrom k ms → ((s : ℕ) → k ≤ s → ltb mostRate (f s) ≡ ltb mostRate (g s))
+    → any (wrongBy f) ms ≡ any (wrongBy g) ms
 unfolding any
 any-cong f g k [] none h = refl
 any-cong f g k (m ∷ ms) (one l r) h = rw (h (m .from) l, any-cong f g k ms r h)
@@ -98,9 +100,9 @@ any-here r f s (m ∷ ms) h l = go (eqb (m .from) s) refl h (any-here r f s ms)
         rw (d, lt-ltb mostRate (f s) l, or-true (eqb (m .rate) 0))
     go false e q ih = rw (ih (omega arith) l) (or-true (wrongBy f m))
 
--- the shares out of s in a list, with the sum that was added before, over lines from one state
+-- the shares out of s in a list, with the sum that was added before, over lines from one state; up to `tooHigh`
 abbrev total : (Move → ℕ) → (from sum : ℕ) → List Move → ℕ → ℕ
-total r from sum ms s = cond (eqb s from) sum 0 + outBy r ms s
+total r from sum ms s = carried (cond (eqb s from) sum 0 + outBy r ms s)
 
 -- a line more moves its share from what is left to what was added
 total-next : (r : Move → ℕ) (from sum : ℕ) (m : Move) (ms : List Move) → from ≤ m .from → (s : ℕ) → m .from ≤ s
@@ -108,35 +110,34 @@ total-next : (r : Move → ℕ) (from sum : ℕ) (m : Move) (ms : List Move) →
 unfolding outBy
 total-next r from sum m ms l s k = go (eqb (m .from) s) refl
   where
-    here : (w : Bool) → cond w sum 0 + (r m + outBy r ms (m .from)) ≡ cond w (sum + r m) (r m) + outBy r ms (m .from)
-    here true = omega arith
-    here false = omega arith
+    here : (before out : ℕ) → carried (before + (r m + out)) ≡ carried (carried (before + r m) + out)
+    here before out = omega arith
 
     go : (x : Bool) → eqb (m .from) s ≡ x → total r from sum (m ∷ ms) s ≡ total r (m .from) (sumAfter (eqb (m .from) from) sum (r m)) ms s
     go true e =
         let q : s ≡ m .from = sym (eqb-true _ _ e) in
-        rw (q, eq-eqb (m .from) (m .from) refl) (here (eqb (m .from) from))
+        rw (q, eq-eqb (m .from) (m .from) refl) (here (cond (eqb (m .from) from) sum 0) (outBy r ms (m .from)))
     go false e =
         let q : m .from ≡ s → ⊥ = eqb-false _ _ e in
         rw (e, ne-eqb s from (omega arith), ne-eqb s (m .from) (omega arith)) (omega arith)
 
 -- at the line's own state, what was added and what is left
-total-here : (r : Move → ℕ) (from sum : ℕ) (ms : List Move) → total r from sum ms from ≡ sum + outBy r ms from
+total-here : (r : Move → ℕ) (from sum : ℕ) (ms : List Move) → total r from sum ms from ≡ carried (sum + outBy r ms from)
 total-here r from sum ms = rw (eq-eqb from from refl)
 
 -- a state whose lines have not ended: its sum so far tells as much as the whole, as long as the lines left tell the rest
-merge : (s r : ℕ) (w : Bool) → (0 < r → mostRate < s + r → w ≡ true) → (ltb mostRate s || w) ≡ (ltb mostRate (s + r) || w)
-merge s r w h = go (ltb mostRate s) (ltb mostRate (s + r)) refl refl
+merge : (s r : ℕ) (w : Bool) → (0 < r → mostRate < carried (s + r) → w ≡ true) → (ltb mostRate s || w) ≡ (ltb mostRate (carried (s + r)) || w)
+merge s r w h = go (ltb mostRate s) (ltb mostRate (carried (s + r))) refl refl
   where
-    go : (x y : Bool) → ltb mostRate s ≡ x → ltb mostRate (s + r) ≡ y → (x || w) ≡ (y || w)
+    go : (x y : Bool) → ltb mostRate s ≡ x → ltb mostRate (carried (s + r)) ≡ y → (x || w) ≡ (y || w)
     go true true d e = refl
     go true false d e =
         let p : mostRate < s = ltb-true _ _ d in
-        let q : s + r ≤ mostRate = ltb-false _ _ e in
+        let q : carried (s + r) ≤ mostRate = ltb-false _ _ e in
         absurd (omega arith)
     go false true d e =
         let p : s ≤ mostRate = ltb-false _ _ d in
-        let q : mostRate < s + r = ltb-true _ _ e in
+        let q : mostRate < carried (s + r) = ltb-true _ _ e in
         h (omega arith) q
     go false false d e = refl
 
@@ -160,12 +161,12 @@ wrong-is a (m ∷ ms) (next r s) (one l f) =
     let b = totalsAdded a (m .from) (m .to) (m .rate) in
     let on = total-next all (a .from) (a .sum) m ms l in
     let same-left : any (wrongBy (whole a (m ∷ ms))) ms ≡ any (wrongBy (whole b ms)) ms =
-    any-cong (whole a (m ∷ ms)) (whole b ms) (m .from) ms r on in
-    let here : whole b ms (m .from) ≡ b .sum + outBy all ms (m .from) = total-here all (m .from) (b .sum) ms in
-    let sum : whole a (m ∷ ms) (m .from) ≡ b .sum + outBy all ms (m .from) = on (m .from) (le-refl (m .from)) ∙ here in
+    any-cong (whole a (m ∷ ms)) (whole b ms) (m .from) ms r (λ s k. ap (ltb mostRate) (on s k)) in
+    let here : whole b ms (m .from) ≡ carried (b .sum + outBy all ms (m .from)) = total-here all (m .from) (b .sum) ms in
+    let sum : whole a (m ∷ ms) (m .from) ≡ carried (b .sum + outBy all ms (m .from)) = on (m .from) (le-refl (m .from)) ∙ here in
     wrong-is b ms s r
     ∙ rw (same-left, sum)
-    (group (a .wrong) (eqb (m .rate) 0) (ltb mostRate (b .sum)) (ltb mostRate (b .sum + outBy all ms (m .from))) (any (wrongBy (whole b ms)) ms)
+    (group (a .wrong) (eqb (m .rate) 0) (ltb mostRate (b .sum)) (ltb mostRate (carried (b .sum + outBy all ms (m .from)))) (any (wrongBy (whole b ms)) ms)
     (merge (b .sum) (outBy all ms (m .from)) (any (wrongBy (whole b ms)) ms)
     (λ p q. any-here all (whole b ms) (m .from) ms p (rw here q))))
 
@@ -174,12 +175,20 @@ all-from [] = none
 all-from (m ∷ ms) = let p : 0 ≤ m .from = omega arith in one p (all-from ms)
 
 -- nothing was added before the first
-from-nothing : (r : Move → ℕ) (ms : List Move) (s : ℕ) → total r 0 0 ms s ≡ outBy r ms s
+from-nothing : (r : Move → ℕ) (ms : List Move) (s : ℕ) → total r 0 0 ms s ≡ carried (outBy r ms s)
 from-nothing r ms s = go (eqb s 0)
   where
-    go : (x : Bool) → cond x 0 0 + outBy r ms s ≡ outBy r ms s
+    go : (x : Bool) → carried (cond x 0 0 + outBy r ms s) ≡ carried (outBy r ms s)
     go true = omega arith
     go false = omega arith
+
+-- `tooHigh` tells as much as what it stands for
+still-told : (x y : ℕ) → x ≡ carried y → ltb mostRate x ≡ ltb mostRate y
+still-told x y e = go (ltb mostRate y) refl
+  where
+    go : (b : Bool) → ltb mostRate y ≡ b → ltb mostRate x ≡ b
+    go true h = let p : mostRate < y = ltb-true _ _ h in lt-ltb mostRate x (omega arith)
+    go false h = let p : y ≤ mostRate = ltb-false _ _ h in le-ltb mostRate x (omega arith)
 
 -- the greatest of f at the states that the lines leave
 unfoldable topFrom : (ℕ → ℕ) → List Move → ℕ
@@ -204,6 +213,12 @@ unfolding topFrom
 top-cong f g k [] none h = refl
 top-cong f g k (m ∷ ms) (one l r) h = rw (h (m .from) l, top-cong f g k ms r h)
 
+-- a state whose lines have not ended: its sum so far is no greater than the whole, which the lines left tell
+greater-of : (top sum out rest : ℕ) → sum ≤ tooHigh → out ≤ 0 ⊎ carried (sum + out) ≤ rest
+    → max (max top sum) rest ≡ max top (max (carried (sum + out)) rest)
+greater-of top sum out rest h (inl k) = omega arith
+greater-of top sum out rest h (inr k) = omega arith
+
 -- what is carried over sorted moves finds the greatest sum that goes to other states
 top-is : (a : Totals) (ms : List Move) → Sorted ms → AllFrom (a .from) ms → totalsOver a ms .top ≡ max (a .top) (topFrom (leaving a ms) ms)
 unfolding totalsOver topFrom
@@ -213,12 +228,12 @@ top-is a (m ∷ ms) (next r s) (one l f) =
     let on = total-next away (a .from) (a .away) m ms l in
     let same-left : topFrom (leaving a (m ∷ ms)) ms ≡ topFrom (leaving b ms) ms =
     top-cong (leaving a (m ∷ ms)) (leaving b ms) (m .from) ms r on in
-    let here : leaving b ms (m .from) ≡ b .away + outBy away ms (m .from) = total-here away (m .from) (b .away) ms in
-    let sum : leaving a (m ∷ ms) (m .from) ≡ b .away + outBy away ms (m .from) = on (m .from) (le-refl (m .from)) ∙ here in
+    let here : leaving b ms (m .from) ≡ carried (b .away + outBy away ms (m .from)) = total-here away (m .from) (b .away) ms in
+    let sum : leaving a (m ∷ ms) (m .from) ≡ carried (b .away + outBy away ms (m .from)) = on (m .from) (le-refl (m .from)) ∙ here in
     top-is b ms s r
     ∙ rw (same-left, sum)
-    (⊎-elim (λ h. omega arith) (λ h. let q : b .away + outBy away ms (m .from) ≤ topFrom (leaving b ms) ms = rw here at h in omega arith)
-    (left-or-none away (leaving b ms) (m .from) ms))
+    (greater-of (a .top) (b .away) (outBy away ms (m .from)) (topFrom (leaving b ms) ms) (omega arith)
+    (⊎-elim inl (λ h. inr (rw here at h)) (left-or-none away (leaving b ms) (m .from) ms)))
 
 -- where all lines name states below n, the greatest total of a state that a line leaves is the greatest of all
 top-least : (f : ℕ → ℕ) (b n : ℕ) (ms : List Move) → Within n ms → ((s : ℕ) → s < n → f s ≤ b) → topFrom f ms ≤ b
@@ -244,28 +259,30 @@ totals-tell n ms h =
     record {
       wrong-told =
           wrong-is totalsBegun ms (sorted ms h) (all-from ms)
-          ∙ any-cong (whole totalsBegun ms) (ratesOut ms) 0 ms (all-from ms) (λ s k. from-nothing all ms s ∙ out-all ms s);
+          ∙ any-cong (whole totalsBegun ms) (ratesOut ms) 0 ms (all-from ms)
+          (λ s k. still-told _ _ (from-nothing all ms s ∙ ap carried (out-all ms s)));
       top-told = λ known good.
           top-is totalsBegun ms (sorted ms h) (all-from ms)
           ∙ omega (
             arith,
-            top-cong (leaving totalsBegun ms) (ratesOut (others ms)) 0 ms (all-from ms) (λ s k. from-nothing away ms s ∙ out-away ms s),
+            top-cong (leaving totalsBegun ms) (ratesOut (others ms)) 0 ms (all-from ms)
+                (λ s k. omega (arith, from-nothing away ms s, out-away ms s, others-slower ms s, rates-tested ms good s)),
             top-greatest n ms (within-tested n ms known),
           );
     }
 
--- each line adds less than a billion, so the lines of a text never add up too high to be carried
+-- no sum is carried above `tooHigh`
 pub totals-begin : TotalsWithin 0 totalsBegun
-unfolding TotalsWithin
+unfolding TotalsFit TotalsWithin
 totals-begin = omega arith
 
 pub totals-fit : (count : ℕ) (a : Totals) → count ≤ sheetBytes → TotalsWithin count a → TotalsFit a
-unfolding TotalsFit TotalsWithin
-totals-fit count a l h = omega arith
+unfolding TotalsWithin
+totals-fit count a l h = h
 
-sum-goes-on : (on : Bool) (count sum share : ℕ) → sum ≤ count * billion → share < billion → sumAfter on sum share ≤ (count + 1) * billion
-sum-goes-on true count sum share h l = omega arith
-sum-goes-on false count sum share h l = omega arith
+pub so-far-fits : (on : Bool) (sum : ℕ) {x : ℕ} → x ≡ cond on sum 0 → sum ≤ tooHigh → x ≤ tooHigh
+so-far-fits true sum e l = omega arith
+so-far-fits false sum e l = omega arith
 
 pub away-small : (own : Bool) (rate : ℕ) {x : ℕ} → x ≡ cond own 0 rate → rate < billion → x < billion
 away-small true rate e l = omega arith
@@ -273,7 +290,5 @@ away-small false rate e l = omega arith
 
 pub totals-go-on : (count : ℕ) (a : Totals) (from to rate : ℕ) → TotalsWithin count a → rate < billion
     → TotalsWithin (count + 1) (totalsAdded a from to rate)
-unfolding TotalsWithin
-totals-go-on count a from to rate h l =
-    let on = eqb from (a .from) in
-    (sum-goes-on on count (a .sum) rate (h .0) l, sum-goes-on on count (a .away) (awayShare from to rate) (h .1) (away-small (eqb from to) rate refl l))
+unfolding TotalsFit TotalsWithin
+totals-go-on count a from to rate h l = (omega arith, omega arith)

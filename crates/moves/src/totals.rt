@@ -1,28 +1,53 @@
 // The rates of rising lines: those of the lines from one state, which stand together, add up to the state's total, and those to other states
-// to what leaves it. How the sums are carried is the affair of this module alone: what they tell at last is stated by the totals (`Telling` of
-// `TotalsLaw`).
+// to what leaves it. The sums are carried in 32 bits, and how is the affair of this module alone: what they tell at last is stated by the
+// totals (`Telling` of `TotalsLaw`).
 ghost use mathlib.Core.Path.{_≡_};
-ghost use Prim.Native.Nat.{_+_, _<_, max};
+ghost use Prim.Native.Nat.{_+_, _≤_, _<_, max};
 ghost use mathlib.Core.Bool.{cond};
 ghost use Rattle.csl.specs.Limits.{billion};
-ghost use Rattle.moves.specs.Totals.{TotalsFit, totalsBegun, totalsAdded};
+ghost use Rattle.moves.specs.Totals.{tooHigh, carried, sumAfter, TotalsFit, totalsBegun, totalsAdded};
+
+// The most that a state's rates may add up to; and one above it, which stands for every sum that is too high.
+const MOST_RATE: u32 = limits::MOST_RATE as u32;
+
+const TOO_HIGH: u32 = MOST_RATE + 1;
 
 // The state that the last line leaves, the sum of its rates so far, and what of it goes to other states; the greatest that goes from one state
 // to others; and whether a rate was 0 or a sum too high.
 pub struct Totals {
     pub from: u64,
-    pub sum: u64,
-    pub away: u64,
+    pub sum: u32,
+    pub away: u32,
     pub top: u64,
     pub wrong: bool,
 }
 
-// The sum with a line of this rate, which goes on from the same state or not.
-fn sum_after(on: bool, sum: u64, rate: u64) -> u64
-    requires { ⌜ (sum < 1000000000000000) × (rate < billion) ⌝ }
-    ensures { λ r. ⌜ r ≡ cond on (sum + rate) rate ⌝ }
+// A sum and a rate more. Whether they are too high is tested before they are added, since 32 bits may not hold what they come to.
+fn tested_sum(sum: u32, rate: u32) -> u32
+    requires { ⌜ sum ≤ tooHigh ⌝ }
+    ensures { λ r. ⌜ r ≡ carried (sum + rate) ⌝ }
 {
-    if on { sum + rate } else { rate }
+    let room = TOO_HIGH - sum;
+    if room < rate {
+        return TOO_HIGH;
+    }
+    let both = sum + rate;
+    both
+}
+
+// The sum so far, before a line that goes on from the same state or not.
+fn so_far(on: bool, sum: u32) -> u32
+    ensures { λ r. ⌜ r ≡ cond on sum 0 ⌝ }
+{
+    if on { sum } else { 0 }
+}
+
+// The sum with a line of this rate, which goes on from the same state or not.
+fn sum_after(on: bool, sum: u32, rate: u64) -> u32
+    requires { ⌜ (sum ≤ tooHigh) × (rate < billion) ⌝ }
+    ensures { λ r. ⌜ r ≡ sumAfter on sum rate ⌝ }
+{
+    tested_sum(so_far(on, sum), rate as u32)
 }
 
 // x unless the test holds, then 0.
@@ -65,8 +90,8 @@ impl Totals {
             from: from,
             sum: sum,
             away: away,
-            top: greater(self.top, away),
-            wrong: self.wrong | (rate == 0) | (limits::MOST_RATE < sum),
+            top: greater(self.top, away as u64),
+            wrong: self.wrong | (rate == 0) | (MOST_RATE < sum),
         }
     }
 }

@@ -16,6 +16,9 @@ sum-after-requires-2 : tie.Need-sum-after-requires-2
 unfolding TotalsFit
 sum-after-requires-2 c κs = search (needs, away-small)
 
+cast-greater : tie.Need-cast-greater
+cast-greater c = search needs
+
 greater-requires : tie.Need-greater-requires
 greater-requires c κs = search needs
 
@@ -26,4 +29,4 @@ returns c =
     rw (c .before .greater .ensures, away .sum-after2 .ensures, away .before .unless .ensures, sum .sum-after .ensures)
 
 pub add-spec : {M : Type 1} → statement M
-add-spec = tie.close (tie.spec sum-after-requires unless-requires sum-after-requires-2 greater-requires returns)
+add-spec = tie.close (tie.spec sum-after-requires unless-requires sum-after-requires-2 cast-greater greater-requires returns)
