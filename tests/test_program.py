@@ -155,13 +155,13 @@ class Program(unittest.TestCase):
             self.assertEqual(run((sheet.moves_text, sheet.labels_text, question)), run((others, sheet.labels_text, question)))
 
     def test_sums_past_32_bits(self):
-        """Sums that 32 bits do not hold, most of which would come round to a few: rates of nine digits, rates within the limit, up to as many as
-        one state can have, and thousands on one state, which the order of tests gives another number."""
-        most, round_once = 10**9 - 1, 2**32 + 5
-        few, full = [most] * 4, [most] * (MOST_STATES - 1)
-        within = [MOST_RATE - 1] * (round_once // (MOST_RATE - 1))
-        for rates in (few + [round_once - sum(few)], [round_once - sum(few)] + few, within + [round_once - sum(within)],
-                      full + [most], full + [(5 - sum(full)) % 2**32], [1] + full):
+        """Sums that 32 bits do not hold are 9, also where they would come round to 5: of rates of nine digits and of rates within the limit, with
+        as many as one state can have. Thousands on one state are 8 or 6, which are tested before."""
+        most, round_to_5 = 10**9 - 1, 2**32 + 5
+        four, all_but_one = [most] * 4, [most] * (MOST_STATES - 1)
+        within = [MOST_RATE - 1] * (round_to_5 // (MOST_RATE - 1))
+        for rates in (four + [round_to_5 - sum(four)], [round_to_5 - sum(four)] + four, within + [round_to_5 - sum(within)],
+                      all_but_one + [(5 - sum(all_but_one)) % 2**32], all_but_one + [most], [1] + all_but_one):
             self.assertTrue(all(0 < rate <= most for rate in rates))
             self.assertGreater(sum(rates), 2**32)
             self.assertEqual(run(edges.rates_out(rates)), refused(9))

@@ -280,9 +280,9 @@ pub totals-fit : (count : ℕ) (a : Totals) → count ≤ sheetBytes → TotalsW
 unfolding TotalsWithin
 totals-fit count a l h = h
 
-pub so-far-fits : (on : Bool) (sum : ℕ) {x : ℕ} → x ≡ cond on sum 0 → sum ≤ tooHigh → x ≤ tooHigh
-so-far-fits true sum e l = omega arith
-so-far-fits false sum e l = omega arith
+pub kept-fits : (on : Bool) (sum : ℕ) {x : ℕ} → x ≡ cond on sum 0 → sum ≤ tooHigh → x ≤ tooHigh
+kept-fits true sum e l = omega arith
+kept-fits false sum e l = omega arith
 
 pub away-small : (own : Bool) (rate : ℕ) {x : ℕ} → x ≡ cond own 0 rate → rate < billion → x < billion
 away-small true rate e l = omega arith

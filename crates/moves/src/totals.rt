@@ -7,13 +7,14 @@ ghost use mathlib.Core.Bool.{cond};
 ghost use Rattle.csl.specs.Limits.{billion};
 ghost use Rattle.moves.specs.Totals.{tooHigh, carried, sumAfter, TotalsFit, totalsBegun, totalsAdded};
 
-// The most that a state's rates may add up to; and one above it, which stands for every sum that is too high.
+// The most that a state's rates may add up to.
 const MOST_RATE: u32 = limits::MOST_RATE as u32;
 
+// One above it, which stands for every sum that is too high.
 const TOO_HIGH: u32 = MOST_RATE + 1;
 
-// The state that the last line leaves, the sum of its rates so far, and what of it goes to other states; the greatest that goes from one state
-// to others; and whether a rate was 0 or a sum too high.
+// The state that the last line leaves, the sum of its rates so far, and what of it goes to other states, both up to `TOO_HIGH`; the greatest
+// that goes from one state to others; and whether a rate was 0 or a sum too high.
 pub struct Totals {
     pub from: u64,
     pub sum: u32,
@@ -22,7 +23,7 @@ pub struct Totals {
     pub wrong: bool,
 }
 
-// A sum and a rate more. Whether they are too high is tested before they are added, since 32 bits may not hold what they come to.
+// A sum and a rate more. Whether they come to too much is tested before they are added, since 32 bits may not hold it.
 fn tested_sum(sum: u32, rate: u32) -> u32
     requires { ⌜ sum ≤ tooHigh ⌝ }
     ensures { λ r. ⌜ r ≡ carried (sum + rate) ⌝ }
@@ -35,8 +36,8 @@ fn tested_sum(sum: u32, rate: u32) -> u32
     both
 }
 
-// The sum so far, before a line that goes on from the same state or not.
-fn so_far(on: bool, sum: u32) -> u32
+// What is kept of a sum before a line that goes on from the same state or not.
+fn kept(on: bool, sum: u32) -> u32
     ensures { λ r. ⌜ r ≡ cond on sum 0 ⌝ }
 {
     if on { sum } else { 0 }
@@ -47,7 +48,7 @@ fn sum_after(on: bool, sum: u32, rate: u64) -> u32
     requires { ⌜ (sum ≤ tooHigh) × (rate < billion) ⌝ }
     ensures { λ r. ⌜ r ≡ sumAfter on sum rate ⌝ }
 {
-    tested_sum(so_far(on, sum), rate as u32)
+    tested_sum(kept(on, sum), rate as u32)
 }
 
 // x unless the test holds, then 0.
