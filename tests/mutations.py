@@ -3,11 +3,13 @@
 Unlike `jobs.damaged`, which breaks the layout more often than not, most of these keep it, so that the later tests of document 01 are reached.
 """
 import re
+from collections import Counter
 
 from reckoning.formula import COMPARISONS, hours_text
 from reckoning.limits import (BILLION, FORMULA_DIGITS, HOUR, MOST_HUNDREDTHS, MOST_MOVES, MOST_NODES, MOST_RATE, MOST_STATES, RATE_HOURS,
                               SPARE_STEPS)
 from reckoning.refusal import Lent, needed, refusal
+from reckoning.sheets import moves_text
 from tests.jobs import damaged, random_job
 from tests.library import ENOUGH, MORE
 
@@ -20,6 +22,7 @@ HOURS = [*map(hours_text, (1, 50, 825, 850, MOST_HUNDREDTHS - 1, MOST_HUNDREDTHS
 WORDS = [b"tt", b"state", b"up", b"dead", b"t", b"tta", b"abcdefghijkl", b"abcdefghijklm", b"", b"00", b"01", b"U", b"X", b"\xff"]
 OPERATORS = [b"! ", b"& tt ", b"& up ", b"P < 1 U 1 tt ", b"P >= 500000000 U %s up " % hours_text(MOST_HUNDREDTHS), b"P > 0 U 0 ", b"P < 1 X ",
              b"P >= 333333334 X "]
+MOST_SUM = 2**32 - 1         # in 32 bits
 MOST_CHANGES = 4
 MOST_DIGITS = 20
 
@@ -49,6 +52,17 @@ def with_number(rng, text):
     near = b"%d" % max(0, int(parts[at]) + rng.choice([-1_000, -2, -1, 1, 2, 1_000]))
     parts[at] = rng.choice([near, rng.choice(NUMBERS)])
     return b"".join(parts)
+
+
+def with_great_rates(rng, text):
+    """The rates of a made moves text replaced by great ones: five out of one state add up to a little more than 32 bits hold."""
+    sums, moves = Counter(), []
+    for line in text.split(b"\n")[1:-1]:
+        state, other, _ = map(int, line.split(b","))
+        rate = min(BILLION - 1, MOST_SUM + rng.randint(1, MOST_RATE) - sums[state])
+        moves.append((state, other, max(1, rate)))
+        sums[state] += moves[-1][2]
+    return moves_text(moves)
 
 
 def with_operators(rng, text):
@@ -96,12 +110,11 @@ def mutated(rng, job, other):
 
 
 def bent_job(rng):
-    """A made job whose layout is kept, so that it is the later tests that it fails: one number replaced, or operators put into the formula."""
-    moves, labels, formula = random_job(rng)
-    kind = rng.randrange(3)
-    if kind == 0:
-        return with_number(rng, moves), labels, formula
-    return moves, labels, (with_number if kind == 1 else with_operators)(rng, formula)
+    """A made job whose layout is kept, so that it is the later tests that it fails: numbers replaced, or operators put into the formula."""
+    texts = list(random_job(rng))
+    which, bend = rng.choice([(0, with_number), (0, with_great_rates), (2, with_number), (2, with_operators)])
+    texts[which] = bend(rng, texts[which])
+    return tuple(texts)
 
 
 def some_lent(rng, job):

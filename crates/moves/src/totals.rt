@@ -1,5 +1,5 @@
 // The rates of rising lines: those of the lines from one state, which stand together, add up to the state's total, and those to other states
-// to what leaves it. The sums are carried in 32 bits, and how is the affair of this module alone: what they tell at last is stated by the
+// to what leaves it. The sums are carried in 32 bits; how is the affair of this module alone, and what they tell at last is stated by the
 // totals (`Telling` of `TotalsLaw`).
 ghost use mathlib.Core.Path.{_≡_};
 ghost use Prim.Native.Nat.{_+_, _≤_, _<_, max};
