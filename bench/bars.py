@@ -6,6 +6,7 @@ from measuring import balls_agree, doubles_agree, width
 from ordering import at_most, out_of_order
 from reckoning.chain import depth
 from restarts import exact
+from searching import for_each, share
 
 FEW_MOVES = 3                           # with fewer moves out of a state than this a sheet is sparse
 MOST_OVER_DOUBLES = {"dense": 1.6, "sparse": 2.4}
@@ -15,6 +16,8 @@ LEAST_UNDER_DOTS = 30                   # a goal and no bar
 MOST_OVER_UNTILS = 1.3
 JUDGED_DEPTH = depth(sheets.HOURS[-1])  # the whole job is judged at this depth, and told of the others
 MOST_OF_JOB = 0.05                      # of a whole job, for the order of its states
+MOST_OF_UNTIL = 0.03                    # of an until, for the search along the moves
+MOST_APART = 4                          # times that a search for each state and move may take of what it takes on another sheet: a goal and no bar
 MOST_RESIDENT = 4096                    # KB
 MOST_WIDTH = 2                          # billionths
 
@@ -92,11 +95,25 @@ def of_orders(orderings, rows):
                   f"{100 * min(shares):.1f} % to {100 * max(shares):.1f} %", max(shares) <= MOST_OF_JOB, judged)
 
 
-def bars(rows, others, footprints, asked, orderings):
+def of_searches(searches, largest):
+    """That the search finds what it should, what it costs of an until, and that it takes as long for each state and move on every sheet."""
+    right = all(search.right for search in searches)
+    yield Bar("verdicts by the moves those of the second reckoning", "yes" if right else "no", right, True)
+    for told_as, some, judged in (("on the largest sheet", [search for search in searches if search.sheet == largest], True),
+                                  ("on every sheet", searches, False)):
+        shares = [share(search) for search in some]
+        yield Bar(f"the search takes at most {100 * MOST_OF_UNTIL:.0f} % of its until at depth {JUDGED_DEPTH} {told_as}",
+                  f"{100 * min(shares):.1f} % to {100 * max(shares):.1f} %", max(shares) <= MOST_OF_UNTIL, judged)
+    each = [for_each(search) for search in searches]
+    yield Bar(f"the search takes at most {MOST_APART} times as long for each state and move on one sheet as on another",
+              f"{min(each):.2f} to {max(each):.2f} ns", max(each) <= MOST_APART * min(each), False)
+
+
+def bars(rows, others, footprints, asked, orderings, searches):
     """All bars; `others` are rows of other shapes, where the whole job is not held against its until, `asked` those with restarts."""
     every = rows + others
-    return [*over_doubles(every), *under_balls(every), *over_untils(rows), *of_orders(orderings, rows), *of_footprints(footprints),
-            *of_answers(every), *of_restarts(asked)]
+    return [*over_doubles(every), *under_balls(every), *over_untils(rows), *of_orders(orderings, rows), *of_searches(searches, rows[-1].sheet),
+            *of_footprints(footprints), *of_answers(every), *of_restarts(asked)]
 
 
 def told(bar):

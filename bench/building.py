@@ -43,6 +43,7 @@ def build():
         compile_c("doubles", ["doubles.c", "sheet.c"]),
         compile_c("job", ["job.c"], ARCHIVE),
         compile_c("short", ["job.c"], "-DBENCH_SHORT", ARCHIVE),
+        compile_c("turns", ["turns.c"], ARCHIVE),
         compile_c("within", ["within.c"]),
     ]
     if not all(built):

@@ -12,6 +12,7 @@ HOURS = [1, 32, 64]                     # loads, and so depths 42, 104 and 168
 SIZES = [(64, 7), (256, 7), (MOST_STATES, 7)]               # states, and moves out of each
 SHAPES = [(MOST_STATES, 2), (MOST_STATES, 4), (256, 14), (64, 28)]
 DEAD_OF = 32                            # one state of so many is dead
+ROWS = [(MOST_STATES, 1), (MOST_STATES, 7)]                 # the same of rows, in which one state after the other leads to the last
 NESTED = MOST_LEVELS - 1                # untils, one in the other, of the deepest formula
 RESTART_RATE = RATE_HOURS // 10         # of the move to the own state, in a sheet with restarts
 
@@ -48,6 +49,16 @@ def write(folder, states, per_state, restarts=False):
     return written(folder, moves_text(moves), labels_text([b"up", b"dead"], marks))
 
 
+def write_row(folder, states, per_state):
+    """Writes a sheet in which each state but the last moves on to the next and to those just before it, and the last alone is dead."""
+    last, moves = states - 1, []
+    for state in range(last):
+        others = range(max(0, state + 1 - per_state), state)
+        rate = TOP_RATE // (len(others) + 1)
+        moves += [(state, to, rate) for to in others] + [(state, state + 1, TOP_RATE - rate * len(others))]
+    return written(folder, moves_text(moves), labels_text([b"up", b"dead"], [(state < last, state == last) for state in range(states)]))
+
+
 def write_shares(folder, shares):
     """Writes a sheet whose states move to a last one, `dead`, with these shares of their moves, in thousandths."""
     moves, labels, _ = shares_job(shares)
@@ -71,6 +82,11 @@ def written(folder, moves, labels):
 def until(hours):
     """The question of the bench: does a state come to a dead one within so many hours? No state is undecided below it."""
     return f"P >= 500000000 U {hours} tt dead"
+
+
+def more_than(threshold, hours):
+    """Does a state come to a dead one within so many hours with more than so many chances in a billion?"""
+    return f"P > {threshold} U {hours} tt dead"
 
 
 def next_move():

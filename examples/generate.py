@@ -114,7 +114,7 @@ def first_fault():
     return Sheet(states, {**moves, **restarts}, labels, "P <= 120000000 X ! collar", told_parts)
 
 
-def redundant_string():
+def redundant_string(formula):
     """A logging string in which every part is there twice or three times."""
     parts = {
         "supplies": running(2, 80),
@@ -132,7 +132,6 @@ def redundant_string():
         "depth": lambda s: s.processors >= 2 and (s.coils >= 1 or s.detectors >= 2),
         "whole": lambda s: all(good == part.states[0] for good, part in zip(s, parts.values())),
     }
-    formula = "P <= 150000000 U 72 & power modem P > 2000000 U 8 & power modem ! depth"
     return Sheet(*joined(parts), labels, formula, told_parts)
 
 
@@ -210,7 +209,8 @@ SHEETS = {
     "small": small(),
     "gun-string": gun_string(),
     "first-fault": first_fault(),
-    "redundant-string": redundant_string(),
+    "redundant-string": redundant_string("P <= 150000000 U 72 & power modem P > 2000000 U 8 & power modem ! depth"),
+    "whole-again": redundant_string("P > 0 U 0.25 & power modem whole"),
     "tandem-2": tandem(2, "P < 50000000 U 2 tt full"),
     "tandem-5": tandem(5, "P >= 900000000 U 2 ! full P < 7500000 U 2 tt full"),
     "polling-3": polling(3, Fraction(1000, 3), "! & busyone ! P >= 900000000 U 100 tt pollone"),

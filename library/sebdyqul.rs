@@ -4,9 +4,9 @@
 //! that is written to overlaps another. So no call of `check` can be a wrong one.
 
 /// Lengths that are enough for every job. A job with n states, m move lines and k nodes in its formula needs n results (lower, upper,
-/// verdicts and order), m words, 10 × n + 512 vectors and k × n marks.
+/// verdicts and order), 2 × m words, 10 × n + 512 vectors and k × n marks.
 pub const RESULTS: usize = 512;
-pub const WORDS: usize = 4_096;
+pub const WORDS: usize = 8_192;
 pub const VECTORS: usize = 5_632;
 pub const MARKS: usize = 32_768;
 
@@ -84,7 +84,7 @@ mod tests {
 
     /// Two states, one move line, three nodes, and the lengths that these need.
     const JOB: [&[u8]; 3] = [b"from,to,rate\n0,1,500\n", b"state,up,dead\n0,1,0\n1,0,1\n", b"P < 1 U 8.25 up dead\n"];
-    const NEEDED: [usize; 7] = [2, 2, 2, 2, 1, 532, 6];
+    const NEEDED: [usize; 7] = [2, 2, 2, 2, 2, 532, 6];
 
     /// What the job ends with where so many elements of each buffer are lent, and what its order buffer then holds.
     fn checked(lent: [usize; 7]) -> (Answer, Vec<u16>) {
@@ -121,7 +121,7 @@ mod tests {
 
     #[test]
     fn the_worst_state_stands_first() {
-        assert_eq!(checked([2, 2, 2, 4, 1, 532, 6]).1, [1, 0, 7, 7]);
-        assert_eq!(checked([1, 2, 2, 4, 1, 532, 6]).1, [7; 4]);
+        assert_eq!(checked([2, 2, 2, 4, 2, 532, 6]).1, [1, 0, 7, 7]);
+        assert_eq!(checked([1, 2, 2, 4, 2, 532, 6]).1, [7; 4]);
     }
 }

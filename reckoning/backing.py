@@ -10,8 +10,7 @@ from itertools import product
 from math import prod
 
 from . import formula as f
-from .ends import verdicts
-from .verdict import NO, YES, both, negate, of_ends
+from .verdict import NO, YES, both, negate
 
 MOST_WORK = 50_000          # ways to name verdicts, times states, that are tried before giving up
 OFFSETS = tuple(product(range(3), range(3)))    # billionths that the ends of a near way are off
@@ -42,7 +41,7 @@ def boxes(rules, node):
         limit(rules, len(lefts) * len(rights))
         return {tuple(map(both_all, left, right)) for left in lefts for right in rights}
     if isinstance(node, f.P):
-        return {tuple(verdicts(node, ends) for ends in rules.ends(node.path, *way)) for way in operand_ways(rules, node)}
+        return {rules.verdicts(node, *way) for way in operand_ways(rules, node)}
     return {tuple(frozenset((verdict,)) for verdict in marks_of(rules, node))}
 
 
@@ -78,9 +77,9 @@ def near(rules, node, below=0, above=0):
     if isinstance(node, f.And):
         return tuple(map(both, near(rules, node.left, below, above), near(rules, node.right, below, above)))
     if isinstance(node, f.P):
-        every = rules.ends(node.path, *near_operands(rules, node, below, above))
-        return tuple(of_ends(node.comparison, node.threshold, max(ends.lower[0], ends.lower[1] - below),
-                             min(ends.upper[1], ends.upper[0] + above)) for ends in every)
+        way = near_operands(rules, node, below, above)
+        pairs = [(max(ends.lower[0], ends.lower[1] - below), min(ends.upper[1], ends.upper[0] + above)) for ends in rules.ends(node.path, *way)]
+        return rules.following(node, way, pairs)
     return marks_of(rules, node)
 
 

@@ -1,12 +1,13 @@
-"""Which ends the rules leave a `P` at each state, once its operands' verdicts are named."""
+"""Which ends and which verdicts the rules leave a `P` at each state, once its operands' verdicts are named."""
 
 from collections import namedtuple
 
 from .bracket import bracket, ceil_billionths, floor_billionths
 from .chain import depth, next_chances
 from .formula import Next
+from .graph import decided
 from .limits import BILLION, NEXT_DEPTH, NEXT_WIDTH, WIDTH_FACTOR
-from .verdict import COMPARISON, NO, UNDECIDED, YES, negate
+from .verdict import COMPARISON, NO, UNDECIDED, YES, negate, of_ends
 
 # All pairs with lower from `lower[0]` to `lower[1]`, upper from `upper[0]` to `upper[1]`, and
 # upper - lower at most `width`, where that is a number.
@@ -61,6 +62,18 @@ class Rules:
         return [state_ends(a, b, low, high, 0 if exact else slack, width)
                 for a, b, low, high in zip(first, second, lows, highs)]
 
+    def verdicts(self, node, *operands):
+        """The verdicts that a `P` can have at each state, where its operands have these: by the moves just one, else by its ends."""
+        by_moves = decided(self.chain, node, operands)
+        if by_moves is None:
+            return tuple(verdicts(node, ends) for ends in self.ends(node.path, *operands))
+        return tuple(frozenset((verdict,)) for verdict in by_moves)
+
+    def following(self, node, operands, pairs):
+        """The verdict of a `P` at each state, where its operands have these verdicts and its ends are these pairs."""
+        by_ends = tuple(of_ends(node.comparison, node.threshold, *pair) for pair in pairs)
+        return decided(self.chain, node, operands) or by_ends
+
 
 def reading(verdicts, taken_as_yes):
     return tuple(verdict in taken_as_yes for verdict in verdicts)
@@ -88,7 +101,7 @@ def some(ends, lower_from=0, lower_to=BILLION, upper_from=0, upper_to=BILLION):
 
 
 def verdicts(node, ends):
-    """The verdicts that this `P` can have at a state with these Ends."""
+    """The verdicts that this `P` can have at a state with these Ends, by the interval rule."""
     negated, more = COMPARISON[node.comparison]
     least = node.threshold + more
     found = []

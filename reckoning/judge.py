@@ -4,10 +4,10 @@ from collections import namedtuple
 
 from . import backing
 from . import formula as f
-from .ends import Rules, has, verdicts
+from .ends import Rules, has
+from .graph import decided
 from .refusal import refusal
 from .report import ENDS_OF, Layout, read_report, refused
-from .verdict import of_ends
 
 # What the rules leave for a report. `lower` and `upper` hold for each state the least and the greatest
 # value, `verdicts` the words; `width` is the most that two ends may differ, where the node is a `P`
@@ -68,12 +68,13 @@ def fewest(ways):
 
 def p_faults(rules, node, way, rows):
     """The faults of the rows of an outermost `P` whose operands have the verdicts `way`."""
-    faults = []
-    for s, (ends, row) in enumerate(zip(rules.ends(node.path, *way), rows)):
+    faults, decides = [], "ends" if decided(rules.chain, node, way) is None else "moves"
+    words = rules.following(node, way, [(row.lower, row.upper) for row in rows])
+    for s, (ends, row, word) in enumerate(zip(rules.ends(node.path, *way), rows, words)):
         if not has(ends, row.lower, row.upper):
             faults.append(f"state {s}: ends {row.lower} and {row.upper}, allowed are {told(ends)}")
-        elif row.verdict != of_ends(node.comparison, node.threshold, row.lower, row.upper):
-            faults.append(f"state {s}: verdict {row.verdict} does not follow from the ends")
+        elif row.verdict != word:
+            faults.append(f"state {s}: verdict {row.verdict} does not follow from the {decides}")
     return faults
 
 
@@ -107,7 +108,7 @@ def p_allowed(rules, node):
     columns = list(zip(*(rules.ends(node.path, *way) for way in ways)))
     lower = [span(end for ends in column for end in ends.lower) for column in columns]
     upper = [span(end for ends in column for end in ends.upper) for column in columns]
-    words = [frozenset().union(*(verdicts(node, ends) for ends in set(column))) for column in columns]
+    words = [frozenset().union(*column) for column in zip(*(rules.verdicts(node, *way) for way in ways))]
     widths = [rules.width(node.path, *way) for way in ways]
     return Allowed(rules.depth(node.path), None if None in widths else widths[0], lower, upper, words)
 

@@ -55,6 +55,9 @@ WIDTH_FACTOR = 4
 NEXT_WIDTH = 1
 NEXT_DEPTH = 0
 
+# "the move words lent grow to 2 × m"
+MOVE_PLACES = 2
+
 # "vector words (64 bits) of 10 × n + 512"
 VECTOR_PLACES = 10
 VECTOR_SPARE = 512

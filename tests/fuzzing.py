@@ -20,6 +20,7 @@ from tests.jobs import random_job
 from tests.library import ENOUGH
 from tests.mutations import mutated, some_lent
 from tests.places import FOLDERS
+from tests.possible import drawn_job
 from tests.record import Record
 
 MADE_SEEDS = 30
@@ -42,7 +43,7 @@ def seeds(rng):
     jobs = [tuple(read_texts(folder)) for folder in FOLDERS]
     jobs += [] if MISSING else map(texts_of, vectors(3 * MOST_BYTES))
     jobs += [job for pair in edges.pairs().values() for job in pair]
-    return jobs + [random_job(rng) for _ in range(MADE_SEEDS)]
+    return jobs + [make(rng) for make in (random_job, drawn_job) for _ in range(MADE_SEEDS)]
 
 
 class Fuzzer:

@@ -7,6 +7,7 @@ from math import ceil, floor
 from reckoning.bracket import Bounds, bracket
 from reckoning.chain import Chain, next_chances
 from reckoning.formula import COMPARISONS, hours_text
+from reckoning.graph import EXTREMES
 from reckoning.limits import BILLION, HOUR, MOST_LETTERS, MOST_LOAD, MOST_RATE, RATE_HUNDREDTHS, most_hundredths
 from reckoning.sheets import labels_text, moves_text
 
@@ -28,14 +29,15 @@ class Sheet:
         self.labels_text = labels_text(self.names, self.rows)
 
     def random_moves(self, rng):
-        """Moves of one scale; some sheets have moves to the own state, others none."""
+        """Moves of one scale; some sheets have moves to the own state, others none; in some, moves lead to neighbours alone, or none across a cut."""
         scale = rng.choice([1, 50, 1_000, 1_000_000, 8_000_000])
         dense, own, least = rng.random(), rng.choice([0, 0.5, 1]), rng.choice([1, 1, 1, scale])
+        furthest, cut = rng.choice([1, self.states, self.states]), rng.choice([0, 0, rng.randrange(self.states)])
         moves = []
         for a in range(self.states):
             left = MOST_RATE
-            for b in range(self.states):
-                if rng.random() < (own if a == b else dense) and left:
+            for b in range(max(0, a - furthest), min(self.states, a + furthest + 1)):
+                if (a < cut) == (b < cut) and rng.random() < (own if a == b else dense) and left:
                     rate = min(left, rng.randint(least, scale))
                     left -= rate
                     moves.append((a, b, rate))
@@ -45,9 +47,9 @@ class Sheet:
         return tuple(bool(row[self.names.index(name)]) for row in self.rows)
 
     def hundredths(self, rng, most_load=MOST_LOAD):
-        """Hundredths of an hour whose load is at most `most_load`, often whole hours."""
+        """Hundredths of an hour whose load is at most `most_load`, often whole hours, or as few as can be."""
         most = most_hundredths(self.chain.q, most_load * RATE_HUNDREDTHS)
-        return rng.choice([0, most, rng.randint(0, most), rng.randint(0, most // HOUR) * HOUR])
+        return rng.choice([0, min(1, most), most, rng.randint(0, most), rng.randint(0, most // HOUR) * HOUR])
 
 
 def random_formula(rng, sheet, levels, most_load):
@@ -71,20 +73,25 @@ def random_formula(rng, sheet, levels, most_load):
 
 
 def random_bound(rng, bounds):
-    """`P`, a comparison and a threshold: any, or one that lies close to some probability, so that verdicts come out undecided."""
+    """`P`, a comparison and a threshold: any, 0 or 1,000,000,000, or one close to some probability, so that verdicts come out undecided."""
     near = max(0, min(BILLION, bounds.down + rng.randint(-1, 2)))
-    return [b"P", rng.choice(COMPARISONS), b"%d" % rng.choice([0, 1, BILLION, rng.randint(0, BILLION), near])]
+    return [b"P", rng.choice(COMPARISONS), b"%d" % rng.choice([*EXTREMES, *EXTREMES, 1, rng.randint(0, BILLION), near, near])]
 
 
 def until_bounds(rng, sheet, hundredths, first, second):
     """The two whole billionths about the probability of an until over two labels, at some state."""
-    return rng.choice(bracket(sheet.chain, sheet.marks(first), sheet.marks(second), hundredths))
+    return some_apart(rng, bracket(sheet.chain, sheet.marks(first), sheet.marks(second), hundredths))
 
 
 def next_bounds(rng, sheet, name):
     """The two whole billionths about the probability that a label holds after the next move, at some state."""
-    chance = BILLION * rng.choice(next_chances(sheet.chain, sheet.marks(name)))
-    return Bounds(floor(chance), ceil(chance))
+    chances = [BILLION * chance for chance in next_chances(sheet.chain, sheet.marks(name))]
+    return some_apart(rng, [Bounds(floor(chance), ceil(chance)) for chance in chances])
+
+
+def some_apart(rng, bounds):
+    """The bounds of some state, of one where they are apart if there is one."""
+    return rng.choice([each for each in bounds if each.down < each.up] or bounds)
 
 
 def near_formula(rng, sheet, most_load):
@@ -99,8 +106,8 @@ def near_formula(rng, sheet, most_load):
 
 
 def formula_about(rng, sheet, inner, most_load):
-    """A `P` with this operand."""
-    bound = [b"P", rng.choice(COMPARISONS), b"%d" % rng.randint(0, BILLION)]
+    """A `P` with this operand; most of them ask for what is possible or certain."""
+    bound = [b"P", rng.choice(COMPARISONS), b"%d" % rng.choice([rng.randint(0, BILLION), *EXTREMES])]
     if rng.random() < 0.3:
         return [*bound, b"X", *inner]
     other = [rng.choice(sheet.names)]

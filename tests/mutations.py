@@ -6,6 +6,7 @@ import re
 from collections import Counter
 
 from reckoning.formula import COMPARISONS, hours_text
+from reckoning.graph import EXTREMES
 from reckoning.limits import (BILLION, FORMULA_DIGITS, HOUR, MOST_HUNDREDTHS, MOST_MOVES, MOST_NODES, MOST_RATE, MOST_STATES, RATE_HOURS,
                               SPARE_STEPS)
 from reckoning.refusal import Lent, needed, refusal
@@ -21,7 +22,8 @@ HOURS = [*map(hours_text, (1, 50, 825, 850, MOST_HUNDREDTHS - 1, MOST_HUNDREDTHS
          b"9999999999.99", b"10000000000.5"]
 WORDS = [b"tt", b"state", b"up", b"dead", b"t", b"tta", b"abcdefghijkl", b"abcdefghijklm", b"", b"00", b"01", b"U", b"X", b"\xff"]
 OPERATORS = [b"! ", b"& tt ", b"& up ", b"P < 1 U 1 tt ", b"P >= 500000000 U %s up " % hours_text(MOST_HUNDREDTHS), b"P > 0 U 0 ", b"P < 1 X ",
-             b"P >= 333333334 X "]
+             b"P >= 333333334 X ", b"P > 0 U 0.01 tt ", b"P <= 0 X ", b"P >= 1000000000 X ", b"P < 1000000000 U 1 tt "]
+THRESHOLD = re.compile(rb"(?<=P < |P > )\d+|(?<=P <= |P >= )\d+")
 MOST_SUM = 2**32 - 1         # in 32 bits
 MOST_CHANGES = 4
 MOST_DIGITS = 20
@@ -52,6 +54,11 @@ def with_number(rng, text):
     near = b"%d" % max(0, int(parts[at]) + rng.choice([-1_000, -2, -1, 1, 2, 1_000]))
     parts[at] = rng.choice([near, rng.choice(NUMBERS)])
     return b"".join(parts)
+
+
+def with_extremes(rng, text):
+    """Thresholds of a formula, each or not, replaced by 0 or 1,000,000,000."""
+    return THRESHOLD.sub(lambda found: rng.choice([found[0], *(b"%d" % extreme for extreme in EXTREMES)]), text)
 
 
 def with_great_rates(rng, text):
@@ -110,18 +117,19 @@ def mutated(rng, job, other):
 
 
 def bent_job(rng):
-    """A made job whose layout is kept, so that it is the later tests that it fails: numbers replaced, or operators put into the formula."""
+    """A made job whose layout is kept, so that it is the later tests that it fails, or none: numbers replaced, or operators put into the formula."""
     texts = list(random_job(rng))
-    which, bend = rng.choice([(0, with_number), (0, with_great_rates), (2, with_number), (2, with_operators)])
+    which, bend = rng.choice([(0, with_number), (0, with_great_rates), (2, with_number), (2, with_operators), (2, with_extremes)])
     texts[which] = bend(rng, texts[which])
     return tuple(texts)
 
 
 def some_lent(rng, job):
-    """Lent lengths for a job: just enough, one short, long, or anything."""
+    """Lent lengths for a job: just enough, one short, half of it, long, or anything."""
     reckoned = refusal(*job)
     if isinstance(reckoned, int) or rng.random() < 0.1:
         return Lent(*(rng.choice([0, 1, rng.randint(0, most), most]) for most in ENOUGH))
     exact, name = needed(reckoned), rng.choice(Lent._fields)
-    more = getattr(exact, name) + rng.choice([-1, 1, MORE])
-    return rng.choice([exact, exact._replace(**{name: max(0, more)}), Lent(*(most + MORE for most in ENOUGH))])
+    need = getattr(exact, name)
+    other = rng.choice([need - 1, need // 2, need + 1, need + MORE])
+    return rng.choice([exact, exact._replace(**{name: max(0, other)}), Lent(*(most + MORE for most in ENOUGH))])

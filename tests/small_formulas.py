@@ -9,5 +9,7 @@ SMALL_FORMULAS = (
     b"P < 1 U 8 P < 1 X up dead\n", b"P < 1 U 8 up dead\n", b"P < 1 U 8.5 up dead\n", b"P < 1 U 8.25 up dead\n", b"P < 1 U 0.05 up dead\n",
     b"P < 1 U 9999999999.99 up dead\n", b"tt\n", b"P < 9999999999 U 8 & a b ! tt\n", b"P >= 1000000000 U 0 up dead\n", b"& up ! dead\n",
     b"& gas up\n", b"state\n", b"P < 1 U 8761 up dead\n", b"P < 1 U 8760.01 up dead\n", b"P < 1000000001 U 1 up dead\n",
-    b"! P < 1 U 1.01 up dead\n",
+    b"! P < 1 U 1.01 up dead\n", b"P > 0 U 0.01 up dead\n", b"P <= 0 U 0 up dead\n", b"P >= 1000000000 U 1 up dead\n",
+    b"P < 1000000000 U 0.5 tt dead\n", b"P >= 0 U 1 up dead\n", b"P > 1000000000 X tt\n", b"P > 0 X dead\n", b"P >= 1000000000 X dead\n",
+    b"P < 1000000000 X P > 0 U 0.01 up dead\n", b"P > 0 U 0.01 up P <= 0 X tt\n", b"P > 0 U 0 up P >= 3992000 U 8 up dead\n",
 )

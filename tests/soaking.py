@@ -8,6 +8,7 @@ from tests.agreement import library_faults, printed, tried
 from tests.jobs import damaged_job, random_job
 from tests.library import ENOUGH
 from tests.mutations import bent_job, mutated, some_lent
+from tests.possible import drawn_job
 from tests.program import run
 
 PROGRAM_EVERY = 25          # jobs
@@ -19,15 +20,17 @@ Ended = namedtuple("Ended", "counts job lent faults")
 
 
 def some_job(rng):
-    """A made job, small or larger, a damaged or a bent one, or one made of two."""
-    kind = rng.randrange(10)
+    """A made job, small or larger, one that asks what is possible or certain, a damaged or a bent one, or one made of two."""
+    kind = rng.randrange(12)
     if kind == 0:
         return random_job(rng, most_states=24, levels=3, most_load=MOST_LOAD)
     if kind <= 2:
         return random_job(rng)
     if kind <= 4:
+        return drawn_job(rng)
+    if kind <= 6:
         return damaged_job(rng)
-    return bent_job(rng) if kind <= 7 else mutated(rng, random_job(rng), random_job(rng))
+    return bent_job(rng) if kind <= 9 else mutated(rng, random_job(rng), random_job(rng))
 
 
 def program_faults(job, called):

@@ -11,7 +11,6 @@ from reckoning.formula import P
 from reckoning.judge import report_depth
 from reckoning.refusal import refusal
 from reckoning.report import ENDS_OF, Row, refused, report_text
-from reckoning.verdict import of_ends
 
 
 def answer(moves, labels, formula):
@@ -28,9 +27,9 @@ def rows(rules, tree):
     depth = report_depth(rules, tree)
     if not isinstance(tree, P):
         return [Row(*ENDS_OF[word], depth, word) for word in near(rules, tree)]
-    every = rules.ends(tree.path, *near_operands(rules, tree))
-    pairs = [(ends.lower[1], ends.upper[0]) for ends in every]
-    return [Row(*pair, depth, of_ends(tree.comparison, tree.threshold, *pair)) for pair in pairs]
+    way = near_operands(rules, tree)
+    pairs = [(ends.lower[1], ends.upper[0]) for ends in rules.ends(tree.path, *way)]
+    return [Row(*pair, depth, word) for pair, word in zip(pairs, rules.following(tree, way, pairs))]
 
 
 if __name__ == "__main__":

@@ -63,6 +63,14 @@ class Falsified(unittest.TestCase):
             told = library_faults(ACCEPTED, self.accepted._replace(after=self.accepted.after._replace(**{name: before})))
             self.assertEqual(told, [f"{name} or a guard of it is not as it should be"])
 
+    def test_index_left_unwritten(self):
+        """One word for each line of moves set to 0, and not two."""
+        lines, size = ACCEPTED[0].count(b"\n") - 1, sizeof(KINDS.moves)
+        middle = (GUARD + lines) * size
+        half = self.accepted.after.moves[:middle] + self.accepted.before.moves[middle:]
+        told = library_faults(ACCEPTED, self.accepted._replace(after=self.accepted.after._replace(moves=half)))
+        self.assertEqual(told, ["moves or a guard of it is not as it should be"])
+
     def test_orders(self):
         """The states are 2, 1, 0 from the worst on, or 0, 1, 2 where the first two are equal: every other order is told, and a state that is none."""
         for job, right in ((ACCEPTED, (2, 1, 0)), (TIES, (0, 1, 2))):

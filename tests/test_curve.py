@@ -149,9 +149,9 @@ class Curve(unittest.TestCase):
     def test_ends_apart(self):
         """An undecided operand drives the ends apart."""
         with tempfile.TemporaryDirectory() as folder:
-            put((*texts(row(60, 20_000)), b"P >= 600000000 U 5 tt P > 0 U 1 up dead\n"), folder)
+            put((*texts(row(60, 20_000)), b"P >= 600000000 U 5 tt P >= 1 U 1 up dead\n"), folder)
             picture = self.drawn(folder, "100", "300", "--state", "50")
-            self.shows(picture, self.rows(folder, b"P >= 600000000 U %s tt P > 0 U 1 up dead\n", (100, 300), 50))
+            self.shows(picture, self.rows(folder, b"P >= 600000000 U %s tt P >= 1 U 1 up dead\n", (100, 300), 50))
             self.assertIn("state 50", picture.words())
 
     def test_next_move_within_an_until(self):
@@ -163,6 +163,15 @@ class Curve(unittest.TestCase):
             picture = self.drawn(copy, "8", "24.5", "48")
             self.shows(picture, self.rows(folder, b"P <= 10000000 U %s power P > 300000000 X ! collar\n", (8, "24.5", 48), 0))
             self.assertIn("P <= 10000000 U t power P > 300000000 X ! collar", picture.words())
+
+    def test_possible(self):
+        """With the threshold 0 the moves decide: no with no time, yes with some, though the ends are 0 and 1 there."""
+        folder = EXAMPLES / "whole-again"
+        picture = self.drawn(folder, "0", "0.25", "8", "--state", "15")
+        self.shows(picture, self.rows(folder, b"P > 0 U %s & power modem whole\n", (0, "0.25", 8), 15))
+        self.assertEqual([mark[3] for mark in picture.marks()], ["no", "yes", "yes"])
+        self.assertEqual(picture.marks()[1][1:3], ("0", "1"))
+        self.assertIn("threshold 0", picture.words())
 
     def test_one_point_and_flat_curves(self):
         with tempfile.TemporaryDirectory() as folder:

@@ -5,10 +5,14 @@ import unittest
 
 from examples.generate import SHEETS, texts
 from reckoning.__main__ import read_texts
+from reckoning.backing import near_operands
+from reckoning.ends import Rules, verdicts
 from reckoning.formula import Next, P, bounds, operands, spelled
 from reckoning.judge import allowed_ends, judge
 from reckoning.limits import BILLION
 from reckoning.refusal import Job, refusal
+from reckoning.report import read_report
+from reckoning.verdict import UNDECIDED
 from tests.floats import Floats
 from tests.places import EXAMPLES, FOLDERS, ROOT
 
@@ -26,6 +30,12 @@ def printed(folder):
 
 def word(holds):
     return "yes" if holds else "no"
+
+
+def ends_of(job):
+    """The ends that the rules leave at each state of a job whose outermost node is a `P` over labels."""
+    rules = Rules(job.chain)
+    return rules.ends(job.tree.path, *near_operands(rules, job.tree))
 
 
 class Examples(unittest.TestCase):
@@ -56,6 +66,19 @@ class Examples(unittest.TestCase):
         self.assertEqual(job.chain.totals[0], job.chain.exits[0] + job.chain.rates[0, 0])
         without = allowed_ends(*read_texts(EXAMPLES / "gun-string")[:2], sheet[2])
         self.assertEqual((without.lower[0], without.verdicts[0]), ((138_297_872,) * 2, {"no"}))
+
+    def test_one_asks_what_is_possible(self):
+        """The redundant string is made whole again from the 16 states in which nothing is out for good; the ends of the last of them do not tell."""
+        sheet, made = read_texts(EXAMPLES / "whole-again"), SHEETS["whole-again"]
+        job, allowed = refusal(*sheet), allowed_ends(*sheet)
+        self.assertEqual((job.tree.comparison, job.tree.threshold), (b">", 0))
+        able = [state for state, told in enumerate(made.states) if (told.supplies, told.modems, told.coils) == (2, 2, 2)]
+        self.assertEqual((able, allowed.verdicts), (list(range(16)), [{word(state in able)} for state in range(432)]))
+        self.assertEqual((allowed.lower[15], allowed.upper[15][0], verdicts(job.tree, ends_of(job)[15])), ((0, 0), 1, {UNDECIDED}))
+        longer = allowed_ends(*sheet[:2], sheet[2].replace(b"0.25", b"72"))
+        self.assertEqual((longer.verdicts, longer.lower[15][1] // 1_000_000), (allowed.verdicts, 976))
+        plain = read_texts(EXAMPLES / "redundant-string")
+        self.assertEqual(sheet[:2], plain[:2])
 
     def test_restarts_change_no_until(self):
         restarts, plain = read_texts(EXAMPLES / "first-fault"), read_texts(EXAMPLES / "gun-string")
@@ -124,6 +147,12 @@ class Told(unittest.TestCase):
         for state in never:
             told = SHEETS["redundant-string"].states[state]
             self.assertFalse(labels["power"](told) and labels["modem"](told))
+
+    def test_ends_that_do_not_tell(self):
+        """State 15 and 176 others, as the README of `whole-again` counts them: with power and a modem, something out for good, and ends about 0."""
+        rows = read_report(printed(EXAMPLES / "whole-again"), 432)
+        open_ = [state for state, row in enumerate(rows) if row.lower == 0 < row.upper]
+        self.assertEqual((len(open_), open_[:2], {rows[state].verdict for state in open_[1:]}), (177, [15, 16], {"no"}))
 
     def test_formulas(self):
         for folder in FOLDERS:

@@ -6,15 +6,16 @@ from ctypes import sizeof
 
 from reckoning.__main__ import read_texts
 from reckoning.formula import hours_text
-from reckoning.limits import HOUR, MOST_HUNDREDTHS, MOST_MOVES, MOST_NODES, MOST_RATE, MOST_STATES
+from reckoning.limits import BILLION, HOUR, MOST_HUNDREDTHS, MOST_MOVES, MOST_NODES, MOST_RATE, MOST_STATES
 from reckoning.refusal import BY_TEXTS, Lent, lengths, needed, refusal
 from reckoning.sheets import FAST_MOVES, FORMULA, LABELS, MOVES, NO_MOVES, labels_text, moves_text
-from tests import edges, orders
+from tests import edges, orders, ways
 from tests.agreement import elements, library_faults, printed, refusal_number, rows_of, tried
 from tests.jobs import damaged_job, random_job
 from tests.library import ENOUGH, GUARD, KINDS, MORE, Library
 from tests.mutations import bent_job
 from tests.places import FOLDERS
+from tests.possible import drawn_job
 from tests.program import run
 from tests.small_formulas import SMALL_FORMULAS
 
@@ -255,6 +256,101 @@ class Orders(LibraryTest):
             self.assertEqual([int(line.split(b",")[0]) for line in lines[states + 2:]], order)
             moved += order != list(range(states))
         self.assertGreater(moved, len(jobs) // 3)
+
+
+class MoveWords(LibraryTest):
+    """The move words: two for each line of moves, the moves and beside them the index of those that come in."""
+
+    def jobs(self):
+        """One line of moves and many, also to the own state; formulas that the moves decide, and others."""
+        restarts = moves_text([(0, 0, 2), (0, 1, 1), (1, 1, 3)])
+        yield from ((moves, LABELS, formula) for moves in (MOVES, restarts) for formula in (b"tt\n", b"P > 0 U 0.01 up dead\n", b"P > 0 X dead\n"))
+        full = edges.moves(MOST_MOVES)
+        yield from ((*full[:2], formula) for formula in (b"tt\n", b"P > 0 U 1 tt ! tt\n", b"P >= 1000000000 X tt\n"))
+
+    def test_lengths(self):
+        """As many words as lines, or one less than two for each, are 15 with every byte as it was."""
+        for job in self.jobs():
+            need, lines = needed(refusal(*job)), job[0].count(b"\n") - 1
+            self.assertEqual(need.moves, 2 * lines)
+            for words in {0, 1, lines, 2 * lines - 1}:
+                for lent in (need._replace(moves=words), ENOUGH._replace(moves=words)):
+                    called, _ = self.agrees(job, lent)
+                    self.assertEqual((called.number, called.after), (15, called.before))
+
+    def test_zeros(self):
+        """After acceptance two words for each line hold 0, and those beyond are as they were."""
+        size = sizeof(KINDS.moves)
+        for job in self.jobs():
+            need = needed(refusal(*job))
+            for more in (0, 1, 2, MORE):
+                called, _ = self.agrees(job, need._replace(moves=need.moves + more))
+                start, end = GUARD * size, (GUARD + need.moves) * size
+                self.assertEqual(called.number, 0)
+                self.assertEqual(called.after.moves[start:end], bytes(2 * size * (job[0].count(b"\n") - 1)))
+                self.assertEqual(called.after.moves[end:], called.before.moves[end:])
+
+
+class Possible(LibraryTest):
+    """Thresholds 0 and 1,000,000,000: what the moves say, on sheets for which it is known beforehand."""
+
+    def sheets(self):
+        """Each sheet with the bounds that are put to it, told by name: all on the smaller ones, two on the largest."""
+        for size in ways.SIZES:
+            for name, led in ways.known(size).items():
+                for bound in ways.BOUNDS if size < MOST_STATES else ((b">", 0), (b">=", BILLION)):
+                    yield f"{name}, {size} states, {bound}", led, bound
+
+    def says(self, job, verdicts):
+        called, _ = self.agrees(job)
+        self.assertEqual([row.verdict for row in rows_of(called, states_of(job))], verdicts)
+        return called
+
+    def test_untils(self):
+        """Over the shortest time, and with no time."""
+        for told, led, bound in self.sheets():
+            with self.subTest(told):
+                self.says(ways.until_job(led, *bound), ways.until_verdicts(led, *bound))
+                self.says(ways.until_job(led, *bound, hours=b"0"), ways.until_verdicts(led, *bound, in_time=False))
+
+    def test_next_moves(self):
+        for told, led, bound in self.sheets():
+            with self.subTest(told):
+                self.says(ways.next_job(led, *bound), ways.next_verdicts(led, *bound))
+
+    def test_drawn_questions(self):
+        """Nested, with undecided operands and without, and lent just enough."""
+        rng = random.Random(19)
+        jobs = [drawn_job(rng) for _ in range(MADE)]
+        judged = [self.agrees(job, needed(refusal(*job)))[1] for job in jobs]
+        self.assertGreater(sum(judged), 0.9 * MADE)
+
+    def test_ends_stay(self):
+        """The ends are those of the same question with another threshold, and most do not tell what the moves do."""
+        for name, led in ways.known(33).items():
+            with self.subTest(name):
+                rows = [rows_of(self.library.check(ways.until_job(led, b">", threshold)), 33) for threshold in (0, 1, BILLION)]
+                first, *others = [[row[:3] for row in each] for each in rows]
+                self.assertEqual(others, [first, first])
+        rows = rows_of(self.says(ways.until_job(ways.known(33)["onward"], b">", 0), ["yes"] * 33), 33)
+        self.assertTrue(all(row.lower == 0 and row.upper > 0 for row in rows[:31]))
+
+    def test_nested(self):
+        """Within another until, under `!` and within a next move an until that the moves decide is decided."""
+        led = ways.known(8)["the first fails on the way"]
+        asked, sheet = b"P > 0 U 0.01 up dead", ways.sheet(led)
+        inner = ways.until_verdicts(led, b">", 0)
+        self.says((*sheet, b"! " + asked + b"\n"), ["no" if word == "yes" else "yes" for word in inner])
+        self.says((*sheet, b"P >= 1 U 0 tt " + asked + b"\n"), inner)
+        self.says((*sheet, b"P > 0 U 0 tt " + asked + b"\n"), inner)
+        self.says((*sheet, b"P > 0 X " + asked + b"\n"), [*inner[1:], "no"])
+
+    def test_one_undecided_state_far_away(self):
+        """The interval rule stands at every state where an operand is undecided at one, though no move leads there."""
+        for hours, first in ((ways.SHORT, "undecided"), (b"100", "yes")):
+            for job in ways.far_away(hours):
+                rows = rows_of(self.agrees(job)[0], 6)
+                self.assertEqual([row.verdict for row in rows[:3]], [first, "yes", "yes"])
 
 
 def refused_jobs():

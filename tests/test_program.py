@@ -10,13 +10,15 @@ from reckoning.refusal import BY_TEXTS
 from reckoning.report import read_report, refused
 from reckoning.sheets import (FAST_MOVES, FORMULA, FULL_MOVES, HOURS_8, LABELS, MOVES, NO_MOVES, REPORT, REPORT_LINE, labels_text, moves_text,
                               until)
+from reckoning.tests import chains
 from reckoning.tests.prints import twice
 from reckoning.tests.vectors import MISSING, cases, texts_of
-from tests import edges, orders
+from tests import edges, orders, ways
 from tests.agreement import refusal_number, tried
 from tests.jobs import Sheet, damaged_job, random_job
 from tests.mutations import bent_job
 from tests.places import DEEP
+from tests.possible import drawn_job
 from tests.program import run
 
 DAMAGED = 3_000
@@ -204,6 +206,62 @@ class Program(unittest.TestCase):
         limit = lambda: resource.setrlimit(resource.RLIMIT_STACK, (READING_STACK, READING_STACK))
         told = subprocess.run([DEEP], stdout=subprocess.PIPE, check=True, preexec_fn=limit).stdout
         self.assertEqual(told, b"ok\n" * 21)
+
+
+class Possible(unittest.TestCase):
+    """Thresholds 0 and 1,000,000,000: the moves decide the verdict, ends and depth stay as they were."""
+
+    def words(self, job, states):
+        """The verdicts of a report that the rules allow."""
+        printed = run(job)
+        self.assertEqual(judge(*job, printed), [])
+        return [each.verdict for each in read_report(printed, states)]
+
+    def test_possible_under_a_billionth(self):
+        """Three states in a row, left once in a million hours: state 0 comes to state 2 within 36 seconds, though no billionth tells of it."""
+        moves, labels = chains.texts(chains.row(3, 1))
+        for bound, word in ((b"> 0", b"yes"), (b"<= 0", b"no"), (b">= 0", b"yes"), (b"< 0", b"no"), (b">= 1", b"undecided"), (b"< 1", b"undecided"),
+                            (b">= 1000000000", b"no"), (b"< 1000000000", b"yes"), (b"> 1000000000", b"no"), (b"<= 1000000000", b"yes")):
+            lines = run((moves, labels, b"P " + bound + b" U 0.01 up dead\n")).splitlines()
+            self.assertEqual((lines[1], lines[-1]), (b"0,0,1,42," + word,) * 2, bound)
+        for formula, line in ((b"! P > 0 U 0.01 up dead", b"0,0,0,0,no"), (b"P >= 1 U 0 tt P > 0 U 0.01 up dead", b"0,1000000000,1000000000,40,yes"),
+                              (b"P > 0 U 0 tt P >= 1 U 0.01 up dead", b"0,0,1000000000,40,undecided")):
+            self.assertEqual(run((moves, labels, formula + b"\n")).splitlines()[1], line, formula)
+
+    def test_certain_by_the_second_alone(self):
+        """State 0 comes to state 1 surely but not at once: no upper end makes that certain, and no time."""
+        def asked(bound):
+            return self.words((FULL_MOVES, LABELS, b"P %s U 1 up dead\n" % bound), 2)
+        self.assertEqual([asked(b">= 1000000000"), asked(b"< 1000000000"), asked(b"> 0")], [["no", "yes"], ["yes", "no"], ["yes", "yes"]])
+        self.assertEqual(read_report(run((FULL_MOVES, LABELS, b"P >= 1000000000 U 1 up dead\n")), 2)[0].upper, BILLION)
+
+    def test_where_moves_lead(self):
+        """What is possible and what is certain, where the way is known: through states where the first operand fails, against the moves, by moves to
+        the own state, without moves, and with no time."""
+        for name, led in ways.known(5).items():
+            for bound in ways.BOUNDS:
+                with self.subTest(name, bound=bound):
+                    self.assertEqual(self.words(ways.until_job(led, *bound), 5), ways.until_verdicts(led, *bound))
+                    self.assertEqual(self.words(ways.until_job(led, *bound, hours=b"0"), 5), ways.until_verdicts(led, *bound, False))
+                    self.assertEqual(self.words(ways.next_job(led, *bound), 5), ways.next_verdicts(led, *bound))
+
+    def test_drawn_questions(self):
+        rng = random.Random(9)
+        for job in (drawn_job(rng) for _ in range(MADE)):
+            self.assertFalse(tried(judge, *job, run(job)), job)
+
+    def test_one_undecided_state_far_away(self):
+        """Where an operand is undecided at one state, the ends decide at every state, as they did."""
+        for hours, first in ((ways.SHORT, "undecided"), (b"100", "yes")):
+            for job in ways.far_away(hours):
+                self.assertEqual(self.words(job, 6)[:3], [first, "yes", "yes"], job)
+
+    def test_the_longest_ways(self):
+        """As many states as there may be, in a row: each comes to the last, within the program's stack."""
+        for name in ("onward", "back", "a ring", "a tree", "the first fails on the way"):
+            led = ways.known(MOST_STATES)[name]
+            rows = read_report(run(ways.until_job(led, b">", 0), stack=STACK), MOST_STATES)
+            self.assertEqual([each.verdict for each in rows], ways.until_verdicts(led, b">", 0), name)
 
 
 if __name__ == "__main__":

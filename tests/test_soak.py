@@ -7,8 +7,14 @@ from collections import Counter
 from pathlib import Path
 from unittest import mock
 
+from reckoning import formula as f
+from reckoning.backing import near_operands
+from reckoning.ends import Rules, verdicts
+from reckoning.graph import EXTREMES, decided
 from reckoning.refusal import BY_TEXTS, SHORT, needed, refusal
+from reckoning.verdict import UNDECIDED, WORDS, of_ends
 from tests import finding, soaking
+from tests.agreement import rows_of
 from tests.library import ENOUGH, GUARD, MORE, Library
 from tests.mutations import some_lent
 from tests.places import ROOT
@@ -17,6 +23,7 @@ from tests.soaking import soak, some_job, try_job
 SOAK = ROOT / "tests" / "soak"
 JOBS = 2_000
 SEED = 20
+FEW_STATES = 8              # of a job whose bounds are looked at
 
 
 class Wrong:
@@ -27,6 +34,23 @@ class Wrong:
 
     def check(self, job, lent=ENOUGH):
         return self.change(self.library.check(job, lent))
+
+
+class ByEnds:
+    """A library that has every verdict of an outermost `P` from its ends."""
+
+    def __init__(self, library):
+        self.library = library
+
+    def check(self, job, lent=ENOUGH):
+        called = self.library.check(job, lent)
+        tree = None if called.number else f.read_formula(job[2])
+        if not isinstance(tree, f.P):
+            return called
+        rows = rows_of(called, job[1].count(b"\n") - 1)
+        data = bytes(WORDS.index(of_ends(tree.comparison, tree.threshold, row.lower, row.upper)) for row in rows)
+        verdicts = called.after.verdicts
+        return called._replace(after=called.after._replace(verdicts=verdicts[:GUARD] + data + verdicts[GUARD + len(data):]))
 
 
 def one_for_another(called):
@@ -53,6 +77,20 @@ def another_state_first(called):
     return called._replace(after=called.after._replace(order=data))
 
 
+def kinds_of(job):
+    """What there is to say of the bounds of a job that ask for possible or certain, the ends taken as near as can be."""
+    rules = Rules(job.chain)
+    for node in f.bounds(job.tree):
+        if node.threshold in EXTREMES:
+            operands = near_operands(rules, node)
+            yield "next move" if isinstance(node.path, f.Next) else "until" if node.path.hundredths else "no time"
+            yield "outermost" if node is job.tree else "inner"
+            if decided(rules.chain, node, operands) is None:
+                yield "an operand undecided"
+            elif any(UNDECIDED in verdicts(node, ends) for ends in rules.ends(node.path, *operands)):
+                yield "the ends would not tell"
+
+
 class Soak(unittest.TestCase):
     @classmethod
     def setUpClass(cls):
@@ -77,6 +115,33 @@ class Soak(unittest.TestCase):
     def test_a_wrong_order_is_found(self):
         ended = soak(JOBS, SEED, Wrong(self.library, another_state_first))
         self.assertRegex("".join(ended.faults), r"^row 1 of the order is state \d+, should be \d+$")
+
+    def test_verdicts_from_the_ends_are_found(self):
+        """Once the moves decide a verdict, a library that goes by the ends is told."""
+        ended = soak(JOBS, SEED, ByEnds(self.library))
+        self.assertRegex("".join(ended.faults), r"^state \d+: verdict undecided does not follow from the moves")
+
+    def test_thresholds_that_the_moves_decide(self):
+        """Of the bounds in the jobs that are tried, many have these thresholds: decided operands and undecided ones, until and next move, outermost
+        and inner, with no time and with some; and verdicts that the ends would not tell."""
+        rng, seen = random.Random(SEED), Counter()
+        for reckoned in (refusal(*some_job(rng)) for _ in range(JOBS)):
+            if not isinstance(reckoned, int) and reckoned.chain.states <= FEW_STATES:
+                seen.update(kinds_of(reckoned))
+        for kind in ("until", "next move", "no time", "inner", "outermost", "the ends would not tell", "an operand undecided"):
+            self.assertGreater(seen[kind], 15, seen)
+
+    def test_move_words_of_all_lengths_are_lent(self):
+        """Just enough, one short, half, one more and many more; short ones alone are refused with 15."""
+        rng, over = random.Random(SEED), Counter()
+        for job in (some_job(rng) for _ in range(JOBS)):
+            reckoned = refusal(*job)
+            if not isinstance(reckoned, int) and reckoned.moves:
+                lent, need = some_lent(rng, job), needed(reckoned)
+                over[lent.moves - need.moves if lent.moves != len(reckoned.moves) else "half"] += 1
+                if lent._replace(moves=need.moves) == need:
+                    self.assertEqual(refusal(*job, lent) == SHORT, lent.moves < 2 * len(reckoned.moves))
+        self.assertLessEqual({-1, 0, 1, MORE, "half"}, set(over))
 
     def test_order_buffers_of_all_lengths_are_lent(self):
         """Just enough, one short, one more and many more; short ones alone are refused with 15."""

@@ -8,7 +8,7 @@ from unittest import mock
 
 from reckoning import backing
 from reckoning import formula as f
-from reckoning.ends import Rules, has, verdicts
+from reckoning.ends import Rules, has
 from reckoning.judge import allowed_ends, judge
 from reckoning.refusal import refusal
 from reckoning.limits import BILLION
@@ -16,7 +16,7 @@ from reckoning.report import ENDS_OF
 from reckoning.sheets import LABELS, MOVES, REPORT_LINE, moves_text
 from reckoning.tests.chains import random_chain, random_hundredths, row, texts
 from reckoning.tests.prints import twice
-from reckoning.verdict import NO, WORDS, YES, both, negate, of_ends
+from reckoning.verdict import NO, WORDS, YES, both, negate
 
 NEAR = b"P >= 3992000 U 8 up dead"      # the limit is about 3,992,010.656: yes or undecided
 
@@ -42,10 +42,9 @@ def random_rows(random, rules, node):
     """A backing picked at random: the rows that a checker with such ends would print."""
     below = [[row[3] for row in random_rows(random, rules, each)] for each in f.operands(node)]
     if isinstance(node, f.P):
-        ends = rules.ends(node.path, *map(tuple, below))
-        pairs = [random_ends(random, each) for each in ends]
-        deep = rules.depth(node.path)
-        return [(*pair, deep, of_ends(node.comparison, node.threshold, *pair)) for pair in pairs]
+        way, deep = tuple(map(tuple, below)), rules.depth(node.path)
+        pairs = [random_ends(random, each) for each in rules.ends(node.path, *way)]
+        return [(*pair, deep, word) for pair, word in zip(pairs, rules.following(node, way, pairs))]
     if isinstance(node, f.Not):
         words = map(negate, *below)
     elif isinstance(node, f.And):
@@ -56,7 +55,7 @@ def random_rows(random, rules, node):
 
 
 def random_formula(random, chain, levels):
-    """Tokens of a formula whose thresholds often lie near a value of the chain."""
+    """Tokens of a formula whose thresholds often lie near a value of the chain, or are 0 or 1,000,000,000."""
     kind = random.choice("!&UUUXXl") if levels > 1 else "l"
     if kind == "l":
         return random.choice((b"tt", b"up", b"dead"))
@@ -64,7 +63,7 @@ def random_formula(random, chain, levels):
     if kind in "!&":
         return b" ".join([kind.encode(), *parts])
     path, near = random_path(random, chain, kind)
-    threshold = min(BILLION, max(0, near))
+    threshold = random.choice((0, BILLION, *[min(BILLION, max(0, near))] * 3))
     return b" ".join([b"P", random.choice(f.COMPARISONS), b"%d" % threshold, f.path_head(path), *parts])
 
 
@@ -150,6 +149,25 @@ class Nodes(unittest.TestCase):
             self.assertNotEqual(judge(moves, labels, formula, printed([wrong, (0, 0, 40, "no")])), [])
         self.assertFalse(judge(moves, labels, formula.replace(b"333333334", b"333333333"), printed([(BILLION, BILLION, 40, "yes"), (0, 0, 40, "no")])))
 
+    def test_possible_of_an_inner_verdict(self):
+        """The inner until is yes at state 0, or undecided: only in the one way are the moves what decides the outer."""
+        formula = b"P > 0 U 0.01 up & up ! " + NEAR + b"\n"
+        impossible, open_ = (0, 0, 42, "no"), (0, BILLION, 42, "undecided")
+        for rows, good in (((impossible, impossible), True), ((open_, impossible), True), (((0, 0, 42, "undecided"), impossible), False),
+                           (((0, BILLION, 42, "no"), impossible), False), (((0, BILLION, 42, "yes"), impossible), False)):
+            self.assertEqual(judge(MOVES, LABELS, formula, printed(rows)) == [], good, rows)
+        self.assertEqual(allowed_ends(MOVES, LABELS, formula).verdicts, [{"no", "undecided"}, {"no"}])
+
+    def test_possible_binds_inner_nodes(self):
+        """State 0 comes to state 2 with a chance under a billionth: the inner `P > 0` is yes there, so the ends above it are points."""
+        moves, labels = texts(row(3, 1))
+        inner = b"P > 0 U 0.01 up dead"
+        for formula, rows in ((b"P >= 1 U 0 tt " + inner, [(BILLION, BILLION, 40, "yes")] * 3), (b"! " + inner, [(0, 0, 0, "no")] * 3),
+                              (b"P >= 1000000000 X " + inner, [(BILLION, BILLION, 0, "yes")] * 2 + [(0, 0, 0, "no")])):
+            self.assertEqual(judge(moves, labels, formula + b"\n", printed(rows)), [], formula)
+            for wrong in ((0, BILLION, rows[0][2], "undecided"), (0, 0, rows[0][2], "no" if rows[0][3] == "yes" else "yes")):
+                self.assertNotEqual(judge(moves, labels, formula + b"\n", printed([wrong, *rows[1:]])), [], formula)
+
     def test_too_many(self):
         """The limit is put to the ways left; near ways are tried all the same."""
         moves, labels = texts(row(3, 500))
@@ -170,7 +188,7 @@ def plain_ways(rules, node):
     vectors = set()
     for each in product(*below):
         if isinstance(node, f.P):
-            words = [verdicts(node, ends) for ends in rules.ends(node.path, *each)]
+            words = rules.verdicts(node, *each)
             vectors |= {v for v in product(WORDS, repeat=len(words)) if all(map(contains, words, v))}
         elif isinstance(node, (f.Not, f.And)):
             vectors.add(tuple(map(negate if isinstance(node, f.Not) else both, *each)))
@@ -199,7 +217,7 @@ class Ways(unittest.TestCase):
 
     def test_boxes_hold_every_way(self):
         most = 0
-        for _, job in random_jobs(Random(16), 80, levels=4, states=(2, 2)):
+        for _, job in random_jobs(Random(16), 160, levels=4, states=(2, 2)):
             rules = Rules(job.chain)
             found = backing.ways(rules, job.tree)
             most = max(most, len(found))
@@ -216,7 +234,7 @@ class Ways(unittest.TestCase):
 class RandomBackings(unittest.TestCase):
     def test_every_backing_is_allowed(self):
         random, open_ways = Random(13), 0
-        for job, read in random_jobs(random, 150, levels=4):
+        for job, read in random_jobs(random, 250, levels=4):
             self.assertNotIsInstance(read, int)
             rules = Rules(read.chain)
             open_ways += len(backing.boxes(rules, read.tree)) > 1

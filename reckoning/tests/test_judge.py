@@ -4,13 +4,13 @@
 """
 
 import unittest
-from itertools import permutations
+from itertools import permutations, product
 from random import Random
 from unittest import mock
 
 from reckoning import backing
 from reckoning.judge import allowed_ends, judge
-from reckoning.limits import BILLION, MOST_HUNDREDTHS, MOST_LEVELS
+from reckoning.limits import BILLION, MOST_HUNDREDTHS, MOST_LEVELS, MOST_RATE
 from reckoning.refusal import lengths
 from reckoning.report import Row, read_report, report_text, worst_first
 from reckoning.sheets import (FAST_MOVES, FORMULA, FULL_MOVES, HOURS_8, HOURS_8_REPORT, LABELS, MOVES, NO_MOVES, REPORT, REPORT_LINE, labels_text,
@@ -303,6 +303,67 @@ class Order(unittest.TestCase):
             self.assertEqual(read_report(report_text(rows), len(rows)), rows)
 
 
+class Possible(Judged):
+    """Thresholds 0 and 1,000,000,000: the moves decide the verdict, while ends and depth stay as they were."""
+    SLOW = dict(zip(("moves", "labels"), texts(row(3, 1))))
+    ROWS = b"0,0,1,42,%s\n1,9,10,42,%s\n2,1000000000,1000000000,42,%s\n"
+
+    def said(self, formula, *wanted, rows=ROWS, **sheet):
+        """Just these verdicts are allowed."""
+        self.allows(formula + b"\n", REPORT_LINE + rows % wanted, **sheet)
+        for at, word in product(range(len(wanted)), (b"yes", b"no", b"undecided")):
+            if word != wanted[at]:
+                self.refuses(formula + b"\n", REPORT_LINE + rows % (*wanted[:at], word, *wanted[at + 1:]), **sheet)
+
+    def test_under_a_billionth(self):
+        """`0,0,1,42,yes` is a row that is printed."""
+        self.said(b"P > 0 U 0.01 up dead", b"yes", b"yes", b"yes", **self.SLOW)
+        self.said(b"P <= 0 U 0.01 up dead", b"no", b"no", b"no", **self.SLOW)
+        self.said(b"P >= 0 U 0.01 up dead", b"yes", b"yes", b"yes", **self.SLOW)
+        self.said(b"P < 0 U 0.01 up dead", b"no", b"no", b"no", **self.SLOW)
+
+    def test_one_threshold_further(self):
+        """1 is no such threshold: the interval decides, or does not."""
+        self.said(b"P >= 1 U 0.01 up dead", b"undecided", b"yes", b"yes", **self.SLOW)
+        self.said(b"P < 1 U 0.01 up dead", b"undecided", b"no", b"no", **self.SLOW)
+
+    def test_certain(self):
+        """At the greatest load the upper end is 1,000,000,000 and the chance is not."""
+        rows = b"0,999999999,1000000000,168,%s\n1,1000000000,1000000000,168,%s\n"
+        for comparison, words in ((b">=", (b"no", b"yes")), (b"<", (b"yes", b"no")), (b"<=", (b"yes", b"yes")), (b">", (b"no", b"no"))):
+            self.said(b"P %s 1000000000 U 1 up dead" % comparison, *words, rows=rows, moves=FULL_MOVES, labels=LABELS)
+        self.said(b"P >= 999999999 U 1 up dead", b"yes", b"yes", rows=rows, moves=FULL_MOVES, labels=LABELS)
+
+    def test_ends_stay(self):
+        """A yes gives no leave to other ends."""
+        formula = b"P > 0 U 0.01 up dead\n"
+        for first in (b"0,1,1,42,yes\n", b"0,0,0,42,yes\n", b"0,1,2,42,yes\n", b"0,0,1,40,yes\n", b"0,0,169,42,yes\n", b"0,0,1000000000,42,yes\n"):
+            self.refuses(formula, REPORT_LINE + first + b"1,9,10,42,yes\n2,1000000000,1000000000,42,yes\n", **self.SLOW)
+
+    def test_no_way(self):
+        """State 1 fails the first operand, so that state 0 cannot come to state 2, however long."""
+        labels = labels_text([b"up", b"dead"], [(1, 0), (0, 0), (0, 1)])
+        rows = b"0,0,0,42,%s\n1,0,0,42,%s\n2,1000000000,1000000000,42,%s\n"
+        self.said(b"P > 0 U 8760 up dead", b"no", b"no", b"yes", rows=rows, moves=self.SLOW["moves"], labels=labels)
+        self.said(b"P <= 0 U 8760 up dead", b"yes", b"yes", b"no", rows=rows, moves=self.SLOW["moves"], labels=labels)
+
+    def test_time_0(self):
+        rows = b"0,0,0,40,%s\n1,0,0,40,%s\n2,1000000000,1000000000,40,%s\n"
+        self.said(b"P > 0 U 0 up dead", b"no", b"no", b"yes", rows=rows, **self.SLOW)
+
+    def test_next_move(self):
+        sheet = dict(moves=moves_text([(0, 0, MOST_RATE - 1), (0, 1, 1)]), labels=LABELS)
+        for formula, ends, words in ((b"P > 0 X dead", b"15,16", (b"yes", b"no")),
+                                     (b"P >= 1000000000 X up", b"999999984,999999985", (b"no", b"no")),
+                                     (b"P >= 1000000000 X tt", b"1000000000,1000000000", (b"yes", b"no")),
+                                     (b"P < 1000000000 X tt", b"1000000000,1000000000", (b"no", b"yes"))):
+            self.said(formula, *words, rows=b"0," + ends + b",0,%s\n1,0,0,0,%s\n", **sheet)
+
+    def test_told_by_which_rule(self):
+        told = faults(b"P > 0 U 0.01 up dead\n", twice(REPORT_LINE + self.ROWS % ((b"undecided",) * 3)), **self.SLOW)
+        self.assertEqual(told[0], "state 0: verdict undecided does not follow from the moves")
+
+
 class FurtherThanDepth(Judged):
     """60 states in a row, rate 1, 1 hour."""
 
@@ -312,10 +373,18 @@ class FurtherThanDepth(Judged):
 
     def test_upper_end(self):
         moves, labels = texts(row(60, 1))
-        formula = b"P > 0 U 1 up dead\n"
+        formula = b"P >= 1 U 1 up dead\n"
         self.allows(formula, self.first(1, b"undecided"), moves=moves, labels=labels)
         self.refuses(formula, self.first(0, b"no"), moves=moves, labels=labels)
         self.refuses(formula, self.first(0, b"undecided"), moves=moves, labels=labels)
+
+    def test_possible(self):
+        """The moves see further than the depth."""
+        moves, labels = texts(row(60, 1))
+        formula = b"P > 0 U 1 up dead\n"
+        self.allows(formula, self.first(1, b"yes"), moves=moves, labels=labels)
+        for upper, word in ((1, b"undecided"), (1, b"no"), (0, b"yes"), (0, b"no")):
+            self.refuses(formula, self.first(upper, word), moves=moves, labels=labels)
 
     def test_undecided_operand_is_not_no(self):
         """Under `!` an undecided operand taken as no turns into a false yes."""
@@ -325,16 +394,17 @@ class FurtherThanDepth(Judged):
         tail = b"58,0,0,0,no\n59,0,0,0,no\n"
         right = REPORT_LINE + b"".join(unknown % s for s in far) + tail
         wrong = REPORT_LINE + b"".join(point % (s, b"yes") for s in far) + tail
-        formula = b"! P > 0 U 1 up dead\n"
+        formula = b"! P >= 1 U 1 up dead\n"
         self.allows(formula, right, moves=moves, labels=labels)
         self.refuses(formula, wrong, moves=moves, labels=labels)
 
     def test_undecided_operand_of_until(self):
-        """Both readings count: lower with no, upper with yes."""
+        """Both readings count: lower with no, upper with yes; at the thresholds 0 and 1,000,000,000 too, since an operand is undecided."""
         moves, labels = texts(row(60, 1))
-        formula = b"P >= 1 U 0 tt P > 0 U 1 up dead\n"
         tail = b"58,1000000000,1000000000,40,yes\n59,1000000000,1000000000,40,yes\n"
         right = b"".join(b"%d,0,1000000000,40,undecided\n" % s for s in range(58))
         wrong = b"".join(b"%d,0,0,40,no\n" % s for s in range(58))
-        self.allows(formula, REPORT_LINE + right + tail, moves=moves, labels=labels)
-        self.refuses(formula, REPORT_LINE + wrong + tail, moves=moves, labels=labels)
+        for bound in (b">= 1", b"> 0", b">= 1000000000"):
+            formula = b"P " + bound + b" U 0 tt P >= 1 U 1 up dead\n"
+            self.allows(formula, REPORT_LINE + right + tail, moves=moves, labels=labels)
+            self.refuses(formula, REPORT_LINE + wrong + tail, moves=moves, labels=labels)

@@ -168,7 +168,7 @@ class Refusals(unittest.TestCase):
             (14, sheet((0, 0, 1), (0, 1, MOST_RATE - 1), formula=longest)),
         ])
         job = refusal(moves_text([(0, 0, MOST_RATE - 500), (0, 1, 500)]), LABELS, FORMULA)
-        self.assertEqual((job.chain.q, job.chain.totals, needed(job).moves), (500, [MOST_RATE, 0], 2))
+        self.assertEqual((job.chain.q, job.chain.totals, needed(job).moves), (500, [MOST_RATE, 0], 4))
         rows = [(s, s, 1) for s in range(MOST_STATES)] * 9
         self.check([(5, dict(moves=moves_text(rows[:MOST_MOVES + 1]), labels=states_text(MOST_STATES), formula=b"tt\n"))])
 
@@ -222,7 +222,7 @@ class Refusals(unittest.TestCase):
                     (0, job(most // MOST_HUNDREDTHS, MOST_HUNDREDTHS)), *((14, job(*each)) for each in over)])
 
     def test_lent(self):
-        need = Lent(2, 2, 2, 2, 1, 532, 6)
+        need = Lent(2, 2, 2, 2, 2, 532, 6)
         self.assertEqual(needed(refusal(MOVES, LABELS, FORMULA)), need)
         cases = [(0, dict(lent=need)), (0, dict(lent=tuple(length + 9 for length in need))),
                  (0, dict(moves=NO_MOVES, lent=need._replace(moves=0)))]
@@ -230,6 +230,16 @@ class Refusals(unittest.TestCase):
         for number, parts in cases:
             with self.subTest(parts=parts):
                 self.assertEqual(answer(**dict(parts, formula=b"P >= 5 U 8 up dead\n")), number)
+
+    def test_two_move_words_for_each_line(self):
+        """Whatever the formula is, and for moves to the own state too."""
+        for lines in (1, 2, 3):
+            moves = moves_text([(0, 0, 2), (0, 1, 1), (1, 1, 3)][:lines])
+            for formula in (b"tt\n", b"P > 0 X dead\n", b"P > 0 U 8 up dead\n", FORMULA):
+                need = needed(refusal(moves, LABELS, formula))
+                self.assertEqual(need.moves, 2 * lines)
+                for words, number in ((lines, 15), (2 * lines - 1, 15), (2 * lines, 0), (2 * lines + 1, 0)):
+                    self.assertEqual(answer(moves=moves, formula=formula, lent=need._replace(moves=words)), number)
 
 
 class Reading(unittest.TestCase):

@@ -32,6 +32,22 @@ within-tested n (m ∷ ms) h =
     let b = neither (leb n (m .from)) _ (a .0) in
     (leb-false _ _ (b .0), leb-false _ _ (b .1), within-tested n ms (a .1))
 
+-- each line has a rate above 0, as the tests have it too
+unfoldable pub Moving : List Move → Type 0
+Moving [] = Unit {0}
+Moving (m ∷ ms) = (0 < m .rate) × Moving ms
+
+above-0 : (f : Move → Bool) (ms : List Move) → any (λ m. eqb (m .rate) 0 || f m) ms ≡ false → Moving ms
+unfolding any Moving
+above-0 f [] h = tt
+above-0 f (m ∷ ms) h =
+    let a = neither (eqb (m .rate) 0 || f m) _ h in
+    let b : m .rate ≡ 0 → ⊥ = eqb-false (m .rate) 0 (neither (eqb (m .rate) 0) (f m) (a .0) .0) in
+    (omega arith, above-0 f ms (a .1))
+
+pub moving-tested : (ms : List Move) → wrongRate ms ≡ false → Moving ms
+moving-tested ms h = above-0 (λ m. ltb mostRate (ratesOut ms (m .from))) ms h
+
 -- the share of one line in the sum over all targets
 line-share : (b : Bool) (r to n : ℕ) → to < n → sumTo (λ t. cond (b && eqb to t) r 0) n ≡ cond b r 0
 unfolding sumTo

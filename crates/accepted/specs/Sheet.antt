@@ -18,7 +18,7 @@ use Rattle.csl.specs.Chain.{chainOf, greatest, topRate}
 use Rattle.numbers.specs.Sum.{greatest-cong, greatest-most}
 use Rattle.csl.specs.Refusal.{brokenLayout, wrongFirstLine, wrongStates, manyMoves, strangeState, notRising, wrongRate, sheetTests, firstOf}
 use Rattle.accepted.specs.Order.{neither, NoneHolds, first-none}
-use Rattle.accepted.specs.Rates.{Within, within-tested, rates-tested, others, others-slower, exit-by-lines}
+use Rattle.accepted.specs.Rates.{Within, Moving, within-tested, rates-tested, moving-tested, others, others-slower, exit-by-lines}
 
 -- a sheet that can be decided over: 01's limits hold of it
 pub record Sound (sheet : Sheet) : Type 0 where
@@ -30,6 +30,7 @@ pub record Sound (sheet : Sheet) : Type 0 where
   pub within : Within (sheet .states) (sheet .moves)
   pub rising : isRising (sheet .moves) ≡ true
   pub slow : (s : ℕ) → ratesOut (sheet .moves) s ≤ mostRate
+  pub moving : Moving (sheet .moves)
 
 module _ (sheet : Sheet) (k : Sound sheet) where
   -- q is the greatest sum of rates on the lines from one state to others, and no greater than such a sum may be
@@ -90,6 +91,7 @@ module _ (moves labels : Text) (n : NoneHolds (sheetTests moves labels)) where
         within = within-tested (statesOf labels) (movesOf moves) (n .1 .1 .1 .1 .1 .0);
         rising = not-false _ (n .1 .1 .1 .1 .1 .1 .0);
         slow = λ s. rates-tested (movesOf moves) (n .1 .1 .1 .1 .1 .1 .1 .0) s;
+        moving = moving-tested (movesOf moves) (n .1 .1 .1 .1 .1 .1 .1 .0);
       }
 
 pub sheet-passed : (moves labels : Text) → firstOf (sheetTests moves labels) ≡ none → SheetPassed moves labels

@@ -1,17 +1,18 @@
 -- The ends and verdicts that the checker finds, as functions of the chain and the formula alone; and that they are a backing. So every
 -- job whose loads are in range has a report: the rules nowhere contradict each other. Assumes nothing.
-use mathlib.Core.Path.{_≡_, refl, ap}
-use mathlib.Core.Bool.{Bool, true, false, cond, and-eq-true-iff}
-use Prim.Native.Nat.{ℕ, _*_, _-_, _/_, _≤_, _<_}
+use mathlib.Core.Path.{_≡_, refl, ap, sym, _∙_}
+use mathlib.Core.Bool.{Bool, true, false, cond, _&&_, false≢true, and-eq-true-iff}
+use Prim.Native.Nat.{ℕ, zero, suc, _*_, _-_, _/_, _≤_, _<_}
 use native.Mathlib.Omega.{arith}
-use lib.Dec.{leb, eqb}
-use borrow.Author.Tests.{leb-true, eqb-false}
+use lib.Dec.{leb, ltb, eqb}
+use borrow.Author.Tests.{leb-true, eqb-false, ne-eqb}
 use Rattle.csl.specs.Limits.{billion, rateHundredths, mostRateHundredths}
 use Rattle.csl.specs.Formula.{Comparison, Formula, always, label, negated, both, chance, Path, until, nextMove, PathOf, untilOf, nextOf, pathOf}
 use Rattle.csl.specs.Formula.{phasesPass, pathsPass, pathsPassIn}
 use Rattle.csl.specs.Chain.{Chain, topRate, load, depth}
 use Rattle.csl.specs.Phase.{Phase}
 use Rattle.csl.specs.Verdicts.{Verdict, Yes, marked, negation, conjunction, judged, least, most}
+use Rattle.csl.specs.Graph.{UntilPossible, UntilCertain, Enters, EntersOnly, AllDecided, Tells}
 use Rattle.csl.specs.Until.{untilPhase}
 use Rattle.csl.specs.Next.{nextLower, nextUpper}
 use Rattle.csl.specs.Path.{FollowsAt}
@@ -20,6 +21,10 @@ use Rattle.csl.specs.Backing.{Backed, AtEach, PathBacked, ChanceKeeps}
 use Rattle.csl.specs.Report.{Reported, lowerOf as plainLower, upperOf as plainUpper}
 use Rattle.csl.specs.Refusal.{inLoad}
 use Rattle.csl.specs.Laws.NextEnds.{ends-next}
+use Rattle.csl.specs.Laws.Decided.{allDecided, all-decided, decided-all}
+use Rattle.csl.specs.Laws.Ruling.{ruledVerdict, verdict-ruled}
+use Rattle.csl.specs.Laws.Search.{leadsIn, leads-told}
+use Rattle.csl.specs.Laws.NextGraph.{upper-tells, lower-tells}
 use Rattle.bounds.specs.Ends.{end-same}
 use Rattle.bounds.specs.Upper.{left-same}
 use Rattle.bounds.specs.Width.{mostDepth}
@@ -77,9 +82,23 @@ abbrev pub upperPath : Chain → PathOf (ℕ → Verdict) → ℕ → ℕ
 upperPath c (untilOf t v w) s = upperFound c t v w s
 upperPath c (nextOf v) s = nextUpper c v s
 
+-- whether no operand state is undecided; what is possible and what is certain, by the moves. Of a next move the ends show it.
+abbrev pub decidedPath : Chain → PathOf (ℕ → Verdict) → Bool
+decidedPath c (untilOf t v w) = allDecided (c .states) v && allDecided (c .states) w
+decidedPath c (nextOf v) = allDecided (c .states) v
+
+abbrev pub possiblePath : Chain → PathOf (ℕ → Verdict) → ℕ → Bool
+possiblePath c (untilOf t v w) s = cond (eqb t 0) (least w s) (leadsIn c (least v) (least w) (c .states) s)
+possiblePath c (nextOf v) s = ltb 0 (nextUpper c v s)
+
+abbrev pub certainPath : Chain → PathOf (ℕ → Verdict) → ℕ → Bool
+certainPath c (untilOf t v w) s = least w s
+certainPath c (nextOf v) s = eqb (nextLower c v s) billion
+
 -- and the verdict that follows
 abbrev pub verdictPath : Chain → Comparison → ℕ → PathOf (ℕ → Verdict) → ℕ → Verdict
-verdictPath c r p o s = judged r p (lowerPath c o s) (upperPath c o s)
+verdictPath c r p o s =
+    ruledVerdict (decidedPath c o) r p (possiblePath c o s) (certainPath c o s) (judged r p (lowerPath c o s) (upperPath c o s))
 
 -- the verdict of a formula at each state; and, of a path, those of its operands
 unfoldable mutual
@@ -109,6 +128,25 @@ reportUpper c (negated a) s = plainUpper (found c (negated a) s)
 reportUpper c (both a b) s = plainUpper (found c (both a b) s)
 reportUpper c (chance r p w) s = upperPath c (foundIn c w) s
 
+-- of an until, the Booleans tell what the moves say
+tells-itself : (b : Bool) → Tells (marked b) (b ≡ true)
+tells-itself true = refl
+tells-itself false = false≢true
+
+until-told : (c : Chain) (t : ℕ) (x y : ℕ → Bool) (s : ℕ) → s < c .states
+    → Tells (marked (cond (eqb t 0) (y s) (leadsIn c x y (c .states) s))) (UntilPossible c t x y s)
+until-told c zero x y s l = tells-itself (y s)
+until-told c (suc t) x y s l = rw (ne-eqb (suc t) 0 (λ e. omega arith)) (leads-told c x y s l)
+
+both-decided : (c : Chain) (v w : ℕ → Verdict) → (allDecided (c .states) v && allDecided (c .states) w) ≡ true → AllDecided c v × AllDecided c w
+both-decided c v w e =
+    let k = and-eq-true-iff (allDecided (c .states) v) (allDecided (c .states) w) .0 e in
+    (all-decided (c .states) v (k .0), all-decided (c .states) w (k .1))
+
+not-both-decided : (c : Chain) (v w : ℕ → Verdict) → (allDecided (c .states) v && allDecided (c .states) w) ≡ false → AllDecided c v × AllDecided c w → ⊥
+not-both-decided c v w e h =
+    false≢true (sym e ∙ and-eq-true-iff (allDecided (c .states) v) (allDecided (c .states) w) .1 (decided-all (c .states) v (h .0), decided-all (c .states) w (h .1)))
+
 -- a test of phases that bounds their depths
 module _ (c : Chain) (test : ℕ → Bool) (small : (t : ℕ) → test t ≡ true → depth c t ≤ mostDepth) where
   -- each kind of path: the ends keep the rules, and the verdict follows
@@ -116,14 +154,20 @@ module _ (c : Chain) (test : ℕ → Bool) (small : (t : ℕ) → test t ≡ tru
   path-ends (untilOf t v w) h = ends-found c t v w (small t h)
   path-ends (nextOf v) h = λ s l. ends-next c v s
 
-  path-follows : (r : Comparison) (p : ℕ) (o : PathOf (ℕ → Verdict)) (s : ℕ)
+  path-follows : (r : Comparison) (p : ℕ) (o : PathOf (ℕ → Verdict)) (s : ℕ) → s < c .states
       → FollowsAt c o r p s (lowerPath c o s) (upperPath c o s) (verdictPath c r p o s)
-  path-follows r p (untilOf t v w) s = refl
-  path-follows r p (nextOf v) s = refl
+  path-follows r p (untilOf t v w) s l =
+      verdict-ruled (AllDecided c v × AllDecided c w) (UntilPossible c t (least v) (least w) s) (UntilCertain (least w) s)
+      (decidedPath c (untilOf t v w)) (both-decided c v w) (not-both-decided c v w) r p _ _ _
+      (λ d. until-told c t (least v) (least w) s l) (λ d. tells-itself (least w s))
+  path-follows r p (nextOf v) s l =
+      verdict-ruled (AllDecided c v) (Enters c (least v) s) (EntersOnly c (least v) s) (decidedPath c (nextOf v))
+      (λ e. all-decided (c .states) v e) (λ e h. false≢true (sym e ∙ decided-all (c .states) v h)) r p _ _ _
+      (λ d. upper-tells c v s d) (λ d. lower-tells c v s)
 
   chance-keeps : (r : Comparison) (p : ℕ) (o : PathOf (ℕ → Verdict)) → phasesPass test o ≡ true
       → ChanceKeeps c r p (lowerPath c o) (upperPath c o) (verdictPath c r p o) o
-  chance-keeps r p o h = record { ends = path-ends o h; verdict = λ s l. path-follows r p o s }
+  chance-keeps r p o h = record { ends = path-ends o h; verdict = λ s l. path-follows r p o s l }
 
   -- the test sees the hours of a path alone
   same-phases : (w : Path) → phasesPass test (pathOf w) ≡ true → phasesPass test (foundIn c w) ≡ true

@@ -7,7 +7,7 @@ use Prim.Native.Nat.{ℕ, _≤_, _<_}
 use native.Mathlib.Omega.{arith}
 use lib.ListN.{length}
 use Rattle.csl.specs.Text.{Text}
-use Rattle.csl.specs.Limits.{formulaBytes, mostStates, mostNodes}
+use Rattle.csl.specs.Limits.{formulaBytes, mostStates, mostMoves, mostNodes}
 use Rattle.csl.specs.Line.{lineFeed}
 use Rattle.csl.specs.Labels.{namesOf, labelsHead}
 use Rattle.csl.specs.Formula.{Formula, nodes}
@@ -129,9 +129,12 @@ module _ (j : Job) (d : Dimensions) (r : SheetReady j d) where
         unfolding stored
         count-is = ap (λ (y : Nodes). y .count) nodes-are
 
-        pub may-measure : (d .states ≤ mostStates) × (x .count ≤ mostNodes)
-        may-measure =
-            (omega (arith, ap (λ (y : Dimensions). y .states) (r .is), sheet-is-good .sound .few-states), omega (arith, count-is, good .fitting .few-nodes))
+        pub may-measure : (d .states ≤ mostStates) × (d .moves ≤ mostMoves) × (x .count ≤ mostNodes)
+        may-measure = (
+          omega (arith, ap (λ (y : Dimensions). y .states) (r .is), sheet-is-good .sound .few-states),
+          omega (arith, ap (λ (y : Dimensions). y .moves) (r .is), sheet-is-good .sound .few-moves),
+          omega (arith, count-is, good .fitting .few-nodes),
+        )
 
         fits : (k : ℕ) → k < x .count → NodeFits (namesOf (j .labels)) (topRate (jobChain j)) k (kindAt (x .nodes) k)
         fits =
@@ -159,7 +162,7 @@ module _ (j : Job) (d : Dimensions) (r : SheetReady j d) where
                     is = r .is;
                     fits = fits;
                     few-levels = rw formula-is (good .fitting .few-levels);
-                    few-nodes = may-measure .1;
+                    few-nodes = may-measure .2;
                     counted = rw formula-is count-is;
                   };
                   room = has-room (lengths before) (d .states) (d .moves) (x .count) (sym s ∙ g);

@@ -10,7 +10,7 @@ use lib.Seq.{length-take-le, getD-take, getD-drop, ext-getD}
 use lib.Dec.{ltb}
 use borrow.Author.Tests.{ltb-true, ltb-false}
 use Rattle.csl.specs.Text.{Text}
-use Rattle.csl.specs.Limits.{mostStates, mostNodes, mostLevels}
+use Rattle.csl.specs.Limits.{mostStates, mostMoves, mostNodes, mostLevels, movePlaces}
 use Rattle.csl.specs.Labels.{namesOf, statesOf}
 use Rattle.csl.specs.Moves.{movesOf}
 use Rattle.csl.specs.Formula.{nodes, levels}
@@ -63,6 +63,13 @@ front-zero l₀ l n h t k = go (ltb k n) refl
     go true e = getD-take n l k 0 (ltb-true k n e) ∙ table-at t k (ltb-true k n e)
     go false e = List·getD-eq-default (take n l) 0 (omega (arith, length-take-le n l h, ltb-false k n e))
 
+-- the words behind the first m, and as many, as the code takes them
+abbrev pub behind : ℕ → List ℕ → List ℕ
+behind m words = take (m + m - m) (drop m words)
+
+pub behind-is : (m : ℕ) (words : List ℕ) → behind m words ≡ take m (drop m words)
+behind-is m words = let e : m + m - m ≡ m = omega arith in ap (λ (k : ℕ). take k (drop m words)) e
+
 -- storing and deciding
 module _ {m₀ labels : Text} {d : Dimensions} {x : Nodes} {words₀ vectors₀ marks₀ : List ℕ} (r : DecideAll m₀ labels d x words₀ vectors₀ marks₀) where
   pub small : d .states ≤ mostStates
@@ -89,10 +96,20 @@ module _ {m₀ labels : Text} {d : Dimensions} {x : Nodes} {words₀ vectors₀ 
   module _ {words vectors marks : List ℕ} (s : Stored m₀ labels words₀ words vectors₀ vectors)
       (z : Table (λ _. 0) marks₀ marks (x .count * d .states)) where
     pub words-long : d .moves ≤ length words
-    words-long = omega (arith, r .in-words, s .lines .same)
+    words-long = omega (arith, r .in-words, s .words-same)
 
     pub words-counted : d .moves ≡ length (take (d .moves) words)
     words-counted = sym (length-take-le (d .moves) words words-long)
+
+    -- the index behind them
+    pub index-long : d .moves + d .moves ≤ length words
+    index-long = omega (arith, r .in-words, s .words-same)
+
+    pub index-counted : length (behind (d .moves) words) ≡ d .moves
+    index-counted = rw (behind-is (d .moves) words) (length-take-le (d .moves) (drop (d .moves) words) (omega (arith, index-long, length-drop (d .moves) words)))
+
+    pub few-moves : d .moves ≤ mostMoves
+    few-moves = omega (arith, moves-are (r .ready), r .ready .passed .sound .few-moves)
 
     pub marks-long : x .count * d .states ≤ length marks
     marks-long = omega (arith, r .in-marks, z .same)
@@ -103,7 +120,8 @@ module _ {m₀ labels : Text} {d : Dimensions} {x : Nodes} {words₀ vectors₀ 
     pub levels-few : levels (formulaIn labels x) ≤ x .count
     levels-few = omega (arith, r .ready .counted, levels-nodes (formulaIn labels x))
 
-    abbrev pub decide-asked : DecideAsked (take (d .moves) words) vectors (take (x .count * d .states) marks) (x .nodes) (x .count - 1) mostLevels (d .states) (d .q)
+    abbrev pub decide-asked : DecideAsked (take (d .moves) words) (behind (d .moves) words) vectors (take (x .count * d .states) marks) (x .nodes)
+        (x .count - 1) mostLevels (d .states) (d .q)
     decide-asked =
         record {
           c = chainIn m₀ labels;
@@ -112,6 +130,8 @@ module _ {m₀ labels : Text} {d : Dimensions} {x : Nodes} {words₀ vectors₀ 
           shows = rw (moves-are (r .ready), states-are (r .ready)) (sheet-shown (r .ready .passed) s);
           prepared = rw (moves-are (r .ready), states-are (r .ready), q-is (r .ready)) (s .prepared);
           owns = rw (states-are (r .ready)) (sheet-owns (r .ready .passed) s);
+          few-words = omega (arith, index-counted, few-moves);
+          index = rw (behind-is (d .moves) words, moves-are (r .ready), states-are (r .ready)) (s .index);
           marked = rw (states-are (r .ready)) (marks-shown (r .ready .passed) s);
           inside = omega (arith, some, r .ready .few-nodes);
           fits = rw (q-is (r .ready)) (λ k h. r .ready .fits k (omega (arith, some)));
@@ -121,7 +141,8 @@ module _ {m₀ labels : Text} {d : Dimensions} {x : Nodes} {words₀ vectors₀ 
         }
 
     module _ {vectors' part : List ℕ} {depth : ℕ}
-        (e : (a : DecideAsked (take (d .moves) words) vectors (take (x .count * d .states) marks) (x .nodes) (x .count - 1) mostLevels (d .states) (d .q))
+        (e : (a : DecideAsked (take (d .moves) words) (behind (d .moves) words) vectors (take (x .count * d .states) marks) (x .nodes)
+        (x .count - 1) mostLevels (d .states) (d .q))
         → Decides (a .c) (formulaOf a) (d .states) vectors vectors' (take (x .count * d .states) marks) part depth) where
       decides : Decides (chainIn m₀ labels) (formulaIn labels x) (d .states) vectors vectors' (take (x .count * d .states) marks) part depth
       decides = e decide-asked
@@ -144,15 +165,15 @@ module _ {m₀ labels : Text} {d : Dimensions} {x : Nodes} {words₀ vectors₀ 
             bytes = λ i b.
                 front-at marks part k marks-long (decides .row .same) i (omega (arith, states-are (r .ready), one-row))
                 ∙ table-at (decides .row) i (omega (arith, states-are (r .ready)));
-            words-same = s .lines .same;
-            words-beyond = table-rest (s .lines);
+            words-same = s .words-same;
+            words-beyond = λ i b. s .words-beyond i (omega arith);
             vectors-same = decides .ends .same ∙ s .same;
             vectors-beyond = λ i b. decides .ends .after i (omega (arith, states-are (r .ready))) ∙ s .beyond i b;
             marks-same = front-length marks part k marks-long (decides .row .same) ∙ z .same;
             marks-beyond = rw (← states-are (r .ready)) (λ i b. front-beyond marks part k marks-long (decides .row .same) i b ∙ table-rest z i b);
           }
 
-pub ruleset decide-laws = (small, some, rows-few, store-asked, clear-asked, words-long, words-counted, marks-long, marks-counted)
+pub ruleset decide-laws = (small, some, rows-few, store-asked, clear-asked, words-long, words-counted, index-long, few-moves, marks-long, marks-counted)
 
 drop-beyond : (n : ℕ) (l l₀ : List ℕ) → length l ≡ length l₀ → ((k : ℕ) → n ≤ k → at l k ≡ at l₀ k) → drop n l ≡ drop n l₀
 drop-beyond n l l₀ e h =
@@ -180,6 +201,7 @@ module _ {m₀ labels : Text} {d : Dimensions} {x : Nodes} {before : Buffers (Li
     clear-all-asked =
         record {
           states = few-states (r .ready);
+          moves = omega (arith, moves-are (r .ready), r .ready .passed .sound .few-moves);
           nodes = r .ready .few-nodes;
           in-words = omega (arith, r .room .moves, k .words-same);
           in-vectors = omega (arith, r .room .vectors, k .vectors-same);
@@ -241,7 +263,7 @@ module _ {m₀ labels : Text} {d : Dimensions} {x : Nodes} {before : Buffers (Li
 
 -- zeros in all that was worked in
 pub all-cleared : {n m k : ℕ} {words words' vectors vectors' marks marks' : List ℕ} {v : ℕ} → ClearAsked n m k words vectors marks → v ≡ vectorLength n
-    → words' ≡ written (replicate m 0) words → vectors' ≡ written (replicate v 0) vectors → Table (λ _. 0) marks marks' (k * n)
+    → words' ≡ written (replicate (movePlaces * m) 0) words → vectors' ≡ written (replicate v 0) vectors → Table (λ _. 0) marks marks' (k * n)
     → Cleared n m k words words' vectors vectors' marks marks'
 all-cleared {vectors = vectors} a e ws vs ms =
     record { in-words = ws; in-vectors = vs ∙ ap (λ (i : ℕ). written (replicate i 0) vectors) e; in-marks = zeros-written (a .in-marks) ms }

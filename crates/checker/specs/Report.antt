@@ -4,7 +4,7 @@ use mathlib.Core.List.{List}
 use Prim.Native.Nat.{ℕ, _+_, _-_, _*_, _≤_, _<_}
 use lib.ListN.{length, replicate}
 use Rattle.csl.specs.Text.{Text}
-use Rattle.csl.specs.Limits.{mostStates, mostNodes, mostLevels}
+use Rattle.csl.specs.Limits.{mostStates, mostMoves, mostNodes, mostLevels, movePlaces}
 use Rattle.csl.specs.Labels.{namesOf, statesOf}
 use Rattle.csl.specs.Moves.{movesOf}
 use Rattle.csl.specs.Sheet.{sheetOf}
@@ -46,7 +46,7 @@ pub record Ready (moves labels : Text) (d : Dimensions) (x : Nodes) : Type 0 whe
 -- and words and mark bytes enough
 pub record DecideAll (moves labels : Text) (d : Dimensions) (x : Nodes) (words vectors marks : List ℕ) : Type 0 where
   pub ready : Ready moves labels d x
-  pub in-words : d .moves ≤ length words
+  pub in-words : movePlaces * d .moves ≤ length words
   pub in-vectors : vectorLength (d .states) ≤ length vectors
   pub in-marks : x .count * d .states ≤ length marks
 
@@ -59,7 +59,7 @@ pub record Decided (moves labels : Text) (x : Nodes) (words₀ words vectors₀ 
   pub range : EndsIn (statesOf labels) vectors
   pub bytes : (s : ℕ) → s < statesOf labels → at marks s ≡ verdictByte (found (chainIn moves labels) (formulaIn labels x) s)
   pub words-same : length words ≡ length words₀
-  pub words-beyond : (k : ℕ) → length (movesOf moves) ≤ k → at words k ≡ at words₀ k
+  pub words-beyond : (k : ℕ) → movePlaces * length (movesOf moves) ≤ k → at words k ≡ at words₀ k
   pub vectors-same : length vectors ≡ length vectors₀
   pub vectors-beyond : (k : ℕ) → vectorLength (statesOf labels) ≤ k → at vectors k ≡ at vectors₀ k
   pub marks-same : length marks ≡ length marks₀
@@ -68,14 +68,15 @@ pub record Decided (moves labels : Text) (x : Nodes) (words₀ words vectors₀ 
 -- words and mark bytes of a job with n states, m move lines and k nodes are to be cleared
 pub record ClearAsked (n m k : ℕ) (words vectors marks : List ℕ) : Type 0 where
   pub states : n ≤ mostStates
+  pub moves : m ≤ mostMoves
   pub nodes : k ≤ mostNodes
-  pub in-words : m ≤ length words
+  pub in-words : movePlaces * m ≤ length words
   pub in-vectors : vectorLength n ≤ length vectors
   pub in-marks : k * n ≤ length marks
 
 -- "the named lengths of move, vector and mark buffers hold 0"
 pub record Cleared (n m k : ℕ) (words₀ words vectors₀ vectors marks₀ marks : List ℕ) : Type 0 where
-  pub in-words : words ≡ written (replicate m 0) words₀
+  pub in-words : words ≡ written (replicate (movePlaces * m) 0) words₀
   pub in-vectors : vectors ≡ written (replicate (vectorLength n) 0) vectors₀
   pub in-marks : marks ≡ written (replicate (k * n) 0) marks₀
 

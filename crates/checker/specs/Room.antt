@@ -5,6 +5,7 @@ use Prim.Native.Nat.{ℕ, _*_, _≤_}
 use lib.Dec.{ltb}
 use borrow.Author.Tests.{ltb-false}
 use Rattle.csl.specs.Text.{any}
+use Rattle.csl.specs.Limits.{movePlaces}
 use Rattle.csl.specs.Lent.{Buffers, needed, rooms, isShort}
 use Rattle.accepted.specs.Order.{neither}
 use Rattle.vectors.specs.Places.{vectorLength}
@@ -15,7 +16,7 @@ pub record HasRoom (n m k : ℕ) (l : Buffers ℕ) : Type 0 where
   pub upper : n ≤ l .upper
   pub verdicts : n ≤ l .verdicts
   pub order : n ≤ l .order
-  pub moves : m ≤ l .moves
+  pub moves : movePlaces * m ≤ l .moves
   pub vectors : vectorLength n ≤ l .vectors
   pub marks : k * n ≤ l .marks
 
@@ -26,7 +27,7 @@ has-room l n m k h =
     let b = neither (ltb (l .upper) n) _ (a .1) in
     let c = neither (ltb (l .verdicts) n) _ (b .1) in
     let d = neither (ltb (l .order) n) _ (c .1) in
-    let e = neither (ltb (l .moves) m) _ (d .1) in
+    let e = neither (ltb (l .moves) (movePlaces * m)) _ (d .1) in
     let f = neither (ltb (l .vectors) (vectorLength n)) _ (e .1) in
     let g = neither (ltb (l .marks) (k * n)) _ (f .1) in
     record {

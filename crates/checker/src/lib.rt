@@ -104,8 +104,8 @@ fn check_formula(
     }
 }
 
-// Checks a job. With n states and m move lines the caller lends n lower and upper numbers, verdict bytes and numbers for the order, m move
-// words, the vector words that crates/vectors lays out, and n mark bytes for each node.
+// Checks a job. With n states and m move lines the caller lends n lower and upper numbers, verdict bytes and numbers for the order, two move
+// words for each line, the vector words that crates/vectors lays out, and n mark bytes for each node.
 //
 // Open, as in document 01, are the two ends of a `P` (numbers that keep the rules for ends), and the verdicts and later ends that follow
 // from them. All else is determined, for all texts and lengths: refused or accepted, the number or the depth, and every place of every

@@ -24,11 +24,13 @@ fn decide_all(
     let rows = nodes.count * n;
     sheet_words::store(moves, labels, sheet, words, vectors);
     verdict_rows::clear(marks, rows);
+    let laid = &words[..];
     decide::decide(
         nodes,
         root,
         limits::MOST_LEVELS,
-        &words[..m],
+        &laid[..m],
+        &laid[m..m + m],
         vectors,
         &mut marks[..rows],
         n,
@@ -36,7 +38,7 @@ fn decide_all(
     )
 }
 
-// Zeros in the move words, vector words and mark bytes of a job with n states, m move lines and so many nodes.
+// Zeros in the move words, their index among them, in the vector words and the mark bytes of a job with n states, m move lines and so many nodes.
 fn clear_all(
     n: usize,
     m: usize,
@@ -50,7 +52,7 @@ fn clear_all(
         (now (words .entry)) (now (words .exit)) (now (vectors .entry)) (now (vectors .exit)) (now (marks .entry)) (now (marks .exit)) ⌝ }
 {
     let length = vectors::length(n);
-    zeros::clear_words(words, m);
+    zeros::clear_words(words, limits::MOVE_PLACES * m);
     zeros::clear_words(vectors, length);
     verdict_rows::clear(marks, count * n);
 }

@@ -4,8 +4,8 @@ use mathlib.Core.Path.{_≡_}
 use Prim.Native.Nat.{ℕ, _<_}
 use Rattle.csl.specs.Formula.{Formula, always, label, negated, both, chance, Path, until, nextMove, PathOf, untilOf, nextOf, Comparison}
 use Rattle.csl.specs.Chain.{Chain}
-use Rattle.csl.specs.Verdicts.{Verdict, Yes, marked, negation, conjunction, Sides}
-use Rattle.csl.specs.Path.{FollowsAt, AllDecided}
+use Rattle.csl.specs.Verdicts.{Verdict, Yes, marked, negation, conjunction}
+use Rattle.csl.specs.Path.{FollowsAt, SidesAt, AllDecided}
 use Rattle.csl.specs.Ends.{EndsAt}
 
 -- at each state of the chain
@@ -85,7 +85,7 @@ unfoldable mutual
       NothingUndecided c a (k .first) (k .first-backed) × NothingUndecided c e (k .second) (k .second-backed)
   NothingUndecidedIn c (nextMove a) K k = NothingUndecided c a (k .first) (k .first-backed)
 
--- Demand 2's rule of sides at every `P` of a backing: this node, where it is one, and every node below it
+-- Demand 2's rule at every `P` of a backing: this node, where it is one, and every node below it
 unfoldable mutual
   pub SidesThroughout : (c : Chain) (f : Formula) (v : ℕ → Verdict) → Backed c f v → Type 0
   SidesThroughout c always v k = Unit {0}
@@ -93,7 +93,8 @@ unfoldable mutual
   SidesThroughout c (negated a) v k = SidesThroughout c a (k .first) (k .first-backed)
   SidesThroughout c (both a e) v k = SidesThroughout c a (k .first) (k .first-backed) × SidesThroughout c e (k .second) (k .second-backed)
   SidesThroughout c (chance r p w) v k =
-      AtEach c (λ s. Sides (v s) r p (k .lower s) (k .upper s)) × SidesThroughoutIn c w (ChanceKeeps c r p (k .lower) (k .upper) v) (k .keeps)
+      AtEach c (λ s. SidesAt c (operandsOf c w (ChanceKeeps c r p (k .lower) (k .upper) v) (k .keeps)) r p s (k .lower s) (k .upper s) (v s))
+      × SidesThroughoutIn c w (ChanceKeeps c r p (k .lower) (k .upper) v) (k .keeps)
 
   pub SidesThroughoutIn : (c : Chain) (w : Path) (K : PathOf (ℕ → Verdict) → Type 0) → PathBacked c w K → Type 0
   SidesThroughoutIn c (until t a e) K k =

@@ -4,6 +4,7 @@ use Prim.Native.Nat.{ℕ, zero, suc, _+_, _*_, _%_, _≤_}
 use Prim.Native.String.{String}
 use mathlib.Core.List.{List, [], _∷_, _++_}
 use mathlib.Core.Option.{none, some}
+use lib.Dec.{leb, eqb}
 use lib.ListN.{replicate}
 use Rattle.csl.specs.Text.{Text, bytes}
 use Rattle.csl.specs.Limits.{mostNodes, hour, mostHundredths, mostRateHundredths, rateHundredths}
@@ -11,7 +12,7 @@ use Rattle.csl.specs.Formula.{Formula, always, label, negated, both, cha
 use Rattle.csl.specs.Fraction.{Fraction, frac, Same}
 use Rattle.csl.specs.Sheet.{sheetOf}
 use Rattle.csl.specs.Chain.{Chain, chainOf}
-use Rattle.csl.specs.Verdicts.{Verdict, Yes}
+use Rattle.csl.specs.Verdicts.{Verdict, Yes, marked, negation}
 use Rattle.csl.specs.Until.{untilQuotient}
 use Rattle.csl.specs.Backing.{AtEach}
 use Rattle.csl.specs.Report.{Reported, reportText, depthOf}
@@ -56,15 +57,15 @@ onlyRestarts formula = jobOf "from,to,rate\n0,0,64000000\n" formula
 abbrev pub enough : Buffers ℕ
 enough = needed 2 2 mostNodes
 
--- the buffers for the small sheet and one node, with this order buffer
-abbrev pub lentAs : List ℕ → Buffers (List ℕ)
-lentAs order =
+-- the buffers for the small sheet and one node, with this order buffer and these move words
+abbrev pub lentAs : (order moves : List ℕ) → Buffers (List ℕ)
+lentAs order moves =
     record {
       lower = replicate 2 7;
       upper = replicate 2 7;
       verdicts = replicate 2 7;
       order = order;
-      moves = replicate 1 7;
+      moves = moves;
       vectors = replicate 532 7;
       marks = replicate 2 7;
     }
@@ -186,10 +187,44 @@ pub record SecondListing : Type 0 where
   pub equal-ones : worstFirst (λ s. 5) (λ s. s) 4 ≡ 0 ∷ 1 ∷ 2 ∷ 3 ∷ []
   pub both : worstFirst (λ s. s % 2) (λ s. s) 4 ≡ 1 ∷ 3 ∷ 0 ∷ 2 ∷ []
   -- "A lent order buffer of n 16-bit numbers holds the state numbers in that order after acceptance", and beyond is unchanged
-  pub order-holds : filled 2 1 1 (λ s. s) (λ s. s) (λ s. Yes) (lentAs (7 ∷ 7 ∷ 7 ∷ [])) .order ≡ 1 ∷ 0 ∷ 7 ∷ []
+  pub order-holds : filled 2 1 1 (λ s. s) (λ s. s) (λ s. Yes) (lentAs (7 ∷ 7 ∷ 7 ∷ []) (7 ∷ 7 ∷ [])) .order ≡ 1 ∷ 0 ∷ 7 ∷ []
   -- "15 covers it too"
-  pub order-short : refusal (small "tt\n") (lengths (lentAs (7 ∷ []))) ≡ some 15
-  pub order-long : refusal (small "tt\n") (lengths (lentAs (7 ∷ 7 ∷ []))) ≡ none
+  pub order-short : refusal (small "tt\n") (lengths (lentAs (7 ∷ []) (7 ∷ 7 ∷ []))) ≡ some 15
+  pub order-long : refusal (small "tt\n") (lengths (lentAs (7 ∷ 7 ∷ []) (7 ∷ 7 ∷ []))) ≡ none
+
+-- three states, one after the other, that are left once in a million hours; the second is up or not
+abbrev pub inTurn : (second formula : String) → Job
+inTurn second formula =
+    record {
+      moves = bytes "from,to,rate\n0,1,1\n1,2,1\n";
+      labels = bytes "state,up,dead\n0,1,0\n1," ++ bytes second ++ bytes ",0\n2,0,1\n";
+      formula = bytes formula;
+    }
+
+-- the verdicts of every report that has a backing
+abbrev pub Decides : Job → (ℕ → Verdict) → Type 0
+Decides j x = (lower upper : ℕ → ℕ) (v : ℕ → Verdict) → Reported (jobChain j) (jobFormula j) lower upper v → AtEach (jobChain j) λ s. v s ≡ x s
+
+-- yes at the states from this one on
+abbrev pub yesFrom : ℕ → ℕ → Verdict
+yesFrom n s = marked (leb n s)
+
+-- What the moves decide.
+pub record PossibleAndCertain : Type 0 where
+  -- "must not end undecided because the chance is under a billionth": two moves of a millionth an hour within a hundredth of one
+  pub under-a-billionth : Decides (inTurn "1" "P > 0 U 0.01 up dead\n") (yesFrom 0)
+  -- "states of the first operand, this one included", "with time above 0"
+  pub first-operand-fails : Decides (inTurn "0" "P > 0 U 8760 up dead\n") (yesFrom 2)
+  pub no-time : Decides (inTurn "1" "P > 0 U 0 up dead\n") (yesFrom 2)
+  -- "certain only where the second holds", though every path comes there
+  pub not-at-once : Decides (inTurn "1" "P >= 1000000000 U 8760 up dead\n") (yesFrom 2)
+  -- "some move enters the operand"; "moves exist and all do", and none leaves the last state
+  pub no-move-enters : Decides (inTurn "1" "P <= 0 X dead\n") (λ s. negation (marked (eqb s 1)))
+  pub all-moves-enter : Decides (inTurn "1" "P < 1000000000 X up\n") (yesFrom 1)
+  -- "the move words lent grow to 2 × m": 15 with fewer, and zeros in so many after acceptance
+  pub words-short : refusal (small "tt\n") (lengths (lentAs (7 ∷ 7 ∷ []) (7 ∷ []))) ≡ some 15
+  pub words-long : refusal (small "tt\n") (lengths (lentAs (7 ∷ 7 ∷ []) (7 ∷ 7 ∷ []))) ≡ none
+  pub words-zero : filled 2 1 1 (λ s. s) (λ s. s) (λ s. Yes) (lentAs (7 ∷ 7 ∷ []) (7 ∷ 7 ∷ 7 ∷ [])) .moves ≡ 0 ∷ 0 ∷ 7 ∷ []
 
 -- "`P <= 10000000 U 8 up dead`: .. lower ≤ 3,992,010, upper ≥ 3,992,011, width ≤ 168, yes at state 0", of every report
 pub record EightHours (lower upper : ℕ → ℕ) (v : ℕ → Verdict) : Type 0 where

@@ -11,6 +11,10 @@ pub mod Point
 pub mod Readings
 pub mod Tail
 pub mod Left
+pub mod Led
+pub mod Parted
+pub mod Decided
+pub mod Graph
 pub mod PointQuotients
 pub mod PointEnds
 pub mod NextEnds
@@ -18,6 +22,10 @@ pub mod OwnState
 pub mod Enclosure
 pub mod Sides
 pub mod Judging
+pub mod Ruled
+pub mod Ruling
+pub mod Search
+pub mod NextGraph
 pub mod Follows
 pub mod Agree
 pub mod Settled
@@ -28,6 +36,7 @@ pub mod Order
 pub mod Listing
 pub mod Bench
 pub mod BenchNext
+pub mod BenchGraph
 pub mod Trial
 pub mod WholeHours
 pub mod EightHours

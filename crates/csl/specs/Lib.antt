@@ -14,6 +14,7 @@ pub mod Chain
 pub mod Phase
 pub mod Limit
 pub mod Verdicts
+pub mod Graph
 pub mod Meaning
 pub mod Until
 pub mod Next

@@ -78,6 +78,10 @@ nextWidth = 1
 abbrev pub nextDepth : ℕ
 nextDepth = 0
 
+-- "the move words lent grow to 2 × m"
+abbrev pub movePlaces : ℕ
+movePlaces = 2
+
 -- "vector words (64 bits) of 10 × n + 512"
 abbrev pub vectorPlaces : ℕ
 vectorPlaces = 10

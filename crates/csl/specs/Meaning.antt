@@ -17,5 +17,5 @@ pub record Meaning (A : Type 0) : Type 1 where
   pub slack : ℕ
   -- "A state where .. has both ends ..": the ends at a state that are given without a sum
   pub Points : (verdicts : A → ℕ → Verdict) → (s lower upper : ℕ) → Type 0
-  -- "`>=` is yes if lower ≥ p, no if upper < p; ..": the verdict at a state, by comparison, threshold and ends; the operands may have a say
-  pub Follows : (verdicts : A → ℕ → Verdict) → Comparison → (p s lower upper : ℕ) → Verdict → Type 0
+  -- the rule of the verdict at a state, by comparison and threshold: the moves', or the interval's, which then says `interval` of the verdict
+  pub Follows : (verdicts : A → ℕ → Verdict) → Comparison → (p s : ℕ) → Verdict → (interval : Type 0) → Type 0

@@ -8,7 +8,8 @@ use Rattle.csl.specs.Limits.{nextWidth, nextDepth}
 use Rattle.csl.specs.Fraction.{Fraction, frac, roundDown, roundUp, inBillionths}
 use Rattle.csl.specs.Chain.{Chain, sumTo}
 use Rattle.csl.specs.Limit.{exact}
-use Rattle.csl.specs.Verdicts.{Verdict, least, most, judged}
+use Rattle.csl.specs.Verdicts.{Verdict, least, most}
+use Rattle.csl.specs.Graph.{Enters, EntersOnly, AllDecided, Ruled}
 use Rattle.csl.specs.Meaning.{Meaning}
 
 -- moves to the own state "count in the exit rate for `X`"
@@ -47,5 +48,6 @@ nextMeaning c a =
       value = λ reading s. exact (nextFraction c (reading a) s);
       slack = nextWidth;
       Points = λ verdicts s lower upper. NextPoints c (verdicts a) s lower upper;
-      Follows = λ verdicts r p s lower upper v. v ≡ judged r p lower upper;
+      Follows = λ verdicts r p s v interval.
+          Ruled (AllDecided c (verdicts a)) r p (Enters c (least (verdicts a)) s) (EntersOnly c (least (verdicts a)) s) v interval;
     }

@@ -1,10 +1,12 @@
 -- What each path formula means, one line for each kind of path; and its value, point ends and verdicts for given operands. Assumes nothing.
-use Prim.Native.Nat.{ℕ, _<_}
+use mathlib.Core.Path.{_≡_}
+use Prim.Native.Nat.{ℕ}
 use mathlib.Core.Bool.{Bool}
 use Rattle.csl.specs.Formula.{PathOf, untilOf, nextOf, Comparison}
 use Rattle.csl.specs.Chain.{Chain}
 use Rattle.csl.specs.Limit.{Value}
-use Rattle.csl.specs.Verdicts.{Verdict, Reading, least, most, Decided}
+use Rattle.csl.specs.Verdicts.{Verdict, Reading, least, most, judged, Sides}
+pub use Rattle.csl.specs.Graph.{AllDecided}
 use Rattle.csl.specs.Meaning.{Meaning}
 use Rattle.csl.specs.Until.{untilMeaning}
 use Rattle.csl.specs.Next.{nextMeaning}
@@ -25,17 +27,19 @@ lowValue c o s = meaning c o .value least s
 abbrev pub highValue : Chain → PathOf (ℕ → Verdict) → ℕ → Value
 highValue c o s = meaning c o .value most s
 
--- the point ends, and the rule of the verdict, where the operands have the verdicts in o
+-- the point ends, where the operands have the verdicts in o
 abbrev pub PointsAt : Chain → PathOf (ℕ → Verdict) → (s lower upper : ℕ) → Type 0
 PointsAt c o s lower upper = meaning c o .Points (λ v. v) s lower upper
 
+-- the verdict that follows: by the moves, or by the interval, "`>=` is yes if lower ≥ p, no if upper < p; .."
 abbrev pub FollowsAt : Chain → PathOf (ℕ → Verdict) → Comparison → (p s lower upper : ℕ) → Verdict → Type 0
-FollowsAt c o r p s lower upper v = meaning c o .Follows (λ v. v) r p s lower upper v
+FollowsAt c o r p s lower upper v = meaning c o .Follows (λ v. v) r p s v (v ≡ judged r p lower upper)
 
--- no state of the chain is undecided; no operand state of a path
-abbrev pub AllDecided : Chain → (ℕ → Verdict) → Type 0
-AllDecided c v = (s : ℕ) → s < c .states → Decided (v s)
+-- the same in demand 2's words: where the interval has a say, it lies wholly on one side of the threshold, or on neither
+abbrev pub SidesAt : Chain → PathOf (ℕ → Verdict) → Comparison → (p s lower upper : ℕ) → Verdict → Type 0
+SidesAt c o r p s lower upper v = meaning c o .Follows (λ v. v) r p s v (Sides v r p lower upper)
 
+-- no operand state of a path is undecided
 abbrev pub DecidedIn : Chain → PathOf (ℕ → Verdict) → Type 0
 DecidedIn c (untilOf t v w) = AllDecided c v × AllDecided c w
 DecidedIn c (nextOf v) = AllDecided c v

@@ -2,6 +2,7 @@
 -- what document 01 says in passing; and that the rules can be kept. Nothing here speaks of a program. Assumes nothing.
 use mathlib.Core.Path.{_≡_, refl}
 use mathlib.Core.Bool.{Bool, true, false, cond}
+use mathlib.Core.Logic.{_⊎_}
 use Prim.Native.Nat.{ℕ, suc, _+_, _*_, _≤_, _<_}
 use mathlib.Core.List.{List}
 use mathlib.Core.Option.{none, some}
@@ -9,26 +10,27 @@ use lib.Dec.{leb, eqb}
 use lib.ListN.{length}
 use native.Mathlib.Omega.{arith}
 use Rattle.csl.specs.Text.{Text, any}
-use Rattle.csl.specs.Limits.{formulaDigits, hour, mostHundredths, mostRateHundredths, widthFactor, spareSteps}
+use Rattle.csl.specs.Limits.{billion, formulaDigits, hour, mostHundredths, mostRateHundredths, widthFactor, spareSteps}
 use Rattle.csl.specs.Number.{isNumber, valueOf}
 use Rattle.csl.specs.Hours.{point, hundredthsOf}
-use Rattle.csl.specs.Formula.{Formula, chance, Path, until, nextMove, PathOf, untilOf, nextOf, Comparison, AtMost, AtLeast, More}
+use Rattle.csl.specs.Formula.{Formula, chance, Path, until, nextMove, PathOf, untilOf, nextOf, Comparison, Less, AtMost, AtLeast, More}
 use Rattle.csl.specs.Grammar.{readState, whole, Spells}
 use Rattle.csl.specs.Fraction.{frac, IsFraction, Below, Same, times, sumUp, roundUp, billionths}
 use Rattle.csl.specs.Chain.{Chain, exitRate, topRate, load, depth}
 use Rattle.csl.specs.Phase.{divisor, stepTop, stepValue, weight, quotient}
-use Rattle.csl.specs.Limit.{Each}
-use Rattle.csl.specs.Verdicts.{Verdict, Yes, Reading, asNo, Sides}
+use Rattle.csl.specs.Limit.{Each, FromSome, LimitIs}
+use Rattle.csl.specs.Verdicts.{Verdict, Yes, Reading, Decided, asNo, least, Sides}
+use Rattle.csl.specs.Graph.{Leads, UntilPossible, UntilCertain, Enters, EntersOnly, ByPossible, ByCertain}
 use Rattle.csl.specs.Until.{untilPhase, untilQuotient}
 use Rattle.csl.specs.Next.{nextExitRate, nextFraction, nextLower, nextUpper}
-use Rattle.csl.specs.Path.{meaning, valueAt, AllDecided, DecidedIn, Reads, reads-until, reads-next}
+use Rattle.csl.specs.Path.{meaning, valueAt, SidesAt, AllDecided, DecidedIn, Reads, reads-until, reads-next}
 use Rattle.csl.specs.Ends.{EndsAt}
 use Rattle.csl.specs.Backing.{AtEach, Backed, ChanceKeeps, operandsOf, NothingUndecided, SidesThroughout}
 use Rattle.csl.specs.Truth.{Obeys, Throughout}
 use Rattle.csl.specs.Order.{isAbove, worstFirst, Ranks, InOrder}
 use Rattle.csl.specs.Report.{Reported, backingOf}
 use Rattle.csl.specs.Refusal.{Job, jobChain}
-use Rattle.csl.specs.Bench.{small, up, dead, eight, Accepts, BenchValues, DecimalHours, NextMoves, SecondListing, EightHours, TrialQuotients}
+use Rattle.csl.specs.Bench.{small, up, dead, eight, Accepts, BenchValues, DecimalHours, NextMoves, SecondListing, PossibleAndCertain, EightHours, TrialQuotients}
 use Rattle.csl.specs.Laws.Computing.{computing}
 use Rattle.csl.specs.Laws.Fraction.{under-below}
 use Rattle.csl.specs.Laws.Steps.{step-le, step-rises, divisor-some}
@@ -38,7 +40,10 @@ use Rattle.csl.specs.Laws.NextEnds.{ends-next}
 use Rattle.csl.specs.Laws.OwnState.{exit-own, SameElsewhere, exit-same, top-same, depth-same, until-same-elsewhere}
 use Rattle.csl.specs.Laws.Tail.{half-weight, light-from, after}
 use Rattle.csl.specs.Laws.Enclosure.{Encloses, encloses, ordered-ends}
-use Rattle.csl.specs.Laws.Sides.{one-verdict}
+use Rattle.csl.specs.Laws.PointQuotients.{until-one}
+use Rattle.csl.specs.Laws.Led.{unled-none}
+use Rattle.csl.specs.Laws.Graph.{impossible-quotients, until-some, until-part, next-some, next-entered, next-full, next-all}
+use Rattle.csl.specs.Laws.Follows.{sides-one, moves-decide, interval-stands}
 use Rattle.csl.specs.Laws.Settled.{tables-agree, verdicts-obey}
 use Rattle.csl.specs.Laws.Backing.{kept-operands}
 use Rattle.csl.specs.Laws.Throughout.{throughout, sides, sides-throughout, Together, backings-agree}
@@ -46,6 +51,7 @@ use Rattle.csl.specs.Laws.Grammar.{read-if-spelled, spelled-if-read}
 use Rattle.csl.specs.Laws.Order.{rows-rank, ordered-in-order, only-in-order, order-same}
 use Rattle.csl.specs.Laws.Bench as bench
 use Rattle.csl.specs.Laws.BenchNext as next-bench
+use Rattle.csl.specs.Laws.BenchGraph as graph-bench
 use Rattle.csl.specs.Laws.Trial as trial
 use Rattle.csl.specs.Laws.EightHours as hours
 use Rattle.csl.specs.Laws.WholeHours as without-point
@@ -70,15 +76,23 @@ module _ (c : Chain) (r : Comparison) (p : ℕ) (w : Path) (lower upper : ℕ �
   pub intervals-are-narrow : DecidedIn c operands → (s : ℕ) → s < c .states → upper s ≤ lower s + meaning c operands .slack
   intervals-are-narrow i s l = kept .ends s l .width i
 
-  -- Demand 2: yes when the interval lies wholly on the threshold's true side, no when wholly on the false side, else undecided
-  pub verdicts-follow-from-the-intervals : (s : ℕ) → s < c .states → Sides (v s) r p (lower s) (upper s)
-  verdicts-follow-from-the-intervals s l = sides c r p lower upper v operands kept s l
+  -- Demand 2: by the moves, "with thresholds 0 and 1,000,000,000, where no operand state is undecided"; else yes when the interval lies wholly on
+  -- the threshold's true side, no when wholly on the false side, else undecided
+  pub verdicts-follow : (s : ℕ) → s < c .states → SidesAt c operands r p s (lower s) (upper s) (v s)
+  verdicts-follow s l = sides c r p lower upper v operands kept s l
 
   -- the one verdict that this rule allows
-  pub intervals-allow-one-verdict : (x : Verdict) (s : ℕ) → s < c .states → Sides x r p (lower s) (upper s) → v s ≡ x
-  intervals-allow-one-verdict x s l h =
-      one-verdict p (lower s) (upper s) (ordered-ends c operands s (lower s) (upper s) l (kept .ends s l)) r (v s) x
-      (verdicts-follow-from-the-intervals s l) h
+  pub one-verdict-follows : (x : Verdict) (s : ℕ) → s < c .states → SidesAt c operands r p s (lower s) (upper s) x → v s ≡ x
+  one-verdict-follows x s l h =
+      sides-one c r p s (lower s) (upper s) (v s) operands x (ordered-ends c operands s (lower s) (upper s) l (kept .ends s l)) (verdicts-follow s l) h
+
+  -- where the moves decide nothing is undecided; elsewhere the interval rule stands
+  pub moves-leave-nothing-undecided : DecidedIn c operands → (p ≡ 0) ⊎ (p ≡ billion) → (s : ℕ) → s < c .states → Decided (v s)
+  moves-leave-nothing-undecided d e s l = moves-decide c r p s (lower s) (upper s) (v s) operands d e (kept .verdict s l)
+
+  pub verdicts-follow-from-the-intervals : (DecidedIn c operands → (p ≡ 0) ⊎ (p ≡ billion) → ⊥) → (s : ℕ) → s < c .states
+      → Sides (v s) r p (lower s) (upper s)
+  verdicts-follow-from-the-intervals n s l = interval-stands c r p s (lower s) (upper s) (v s) operands n (verdicts-follow s l)
 
 -- The same of an until, whose quotients and operands can be named.
 module _ (c : Chain) (r : Comparison) (p t : ℕ) (a b : Formula) (lower upper : ℕ → ℕ) (v : ℕ → Verdict)
@@ -94,6 +108,11 @@ module _ (c : Chain) (r : Comparison) (p t : ℕ) (a b : Formula) (lower upper :
       → upper s ≤ lower s + widthFactor * depth c t
   intervals-of-an-until-are-narrow i j s l = intervals-are-narrow c r p (until t a b) lower upper v k (i, j) s l
 
+  pub moves-decide-an-until : AllDecided c (k .first) → AllDecided c (k .second) → (s : ℕ) → s < c .states
+      → (p ≡ 0 → ByPossible r (UntilPossible c t (least (k .first)) (least (k .second)) s) (v s))
+      × (p ≡ billion → ByCertain r (UntilCertain (least (k .second)) s) (v s))
+  moves-decide-an-until i j s l = (k .keeps .verdict s l .at-0 (i, j), k .keeps .verdict s l .at-1 (i, j))
+
 -- The same of a next move: "no reading puts the fraction outside the interval"; "with a decided operand the width is at most 1". Both ends are
 -- determined by the verdicts of the operand.
 module _ (c : Chain) (r : Comparison) (p : ℕ) (a : Formula) (lower upper : ℕ → ℕ) (v : ℕ → Verdict)
@@ -105,6 +124,10 @@ module _ (c : Chain) (r : Comparison) (p : ℕ) (a : Formula) (lower upper : ℕ
 
   pub intervals-of-a-next-move-are-narrow : AllDecided c (k .first) → (s : ℕ) → s < c .states → upper s ≤ lower s + 1
   intervals-of-a-next-move-are-narrow i s l = intervals-are-narrow c r p (nextMove a) lower upper v k i s l
+
+  pub moves-decide-a-next-move : AllDecided c (k .first) → (s : ℕ) → s < c .states
+      → (p ≡ 0 → ByPossible r (Enters c (least (k .first)) s) (v s)) × (p ≡ billion → ByCertain r (EntersOnly c (least (k .first)) s) (v s))
+  moves-decide-a-next-move i s l = (k .keeps .verdict s l .at-0 i, k .keeps .verdict s l .at-1 i)
 
   pub ends-of-a-next-move : (s : ℕ) → s < c .states → (lower s ≡ nextLower c (k .first) s) × (upper s ≡ nextUpper c (k .first) s)
   ends-of-a-next-move s l = let e = k .keeps .ends s l .points in (e .lower-is, e .upper-is)
@@ -139,7 +162,7 @@ pub decided-verdicts-are-a-table : (c : Chain) (f : Formula) (v : ℕ → Verdic
 decided-verdicts-are-a-table c f v k d =
     let o : Obeys c f (λ s. asNo (v s)) = verdicts-obey c f v k d in (o, throughout c f v (λ s. asNo (v s)) k o)
 
--- T4. The starred bench values, those of hours with decimals, of the next move and of moves to the own state, of the second listing, and
+-- T4. The starred bench values, those of hours with decimals, of the next move and of moves to the own state, of the second listing, of what the moves decide, and
 -- `P <= 10000000 U 8 up dead`, of every report that has a backing; and quotients as a second reckoning has them.
 pub starred-bench-values : BenchValues
 starred-bench-values = bench.bench-values
@@ -152,6 +175,9 @@ next-moves-and-restarts = next-bench.next-moves
 
 pub second-listing-and-order-buffer : SecondListing
 second-listing-and-order-buffer = bench.second-listing
+
+pub possible-and-certain : PossibleAndCertain
+possible-and-certain = graph-bench.possible-and-certain
 
 pub eight-hours-of-every-report : (lower upper : ℕ → ℕ) (v : ℕ → Verdict)
     → Reported (jobChain (small "P <= 10000000 U 8 up dead\n")) (chance AtMost 10000000 (until eight up dead)) lower upper v → EightHours lower upper v
@@ -292,6 +318,35 @@ module _ (lower upper : ℕ → ℕ) where
   pub order-is-of-the-states-below-n : (n : ℕ) (lower' upper' : ℕ → ℕ) → ((s : ℕ) → s < n → lower s ≡ lower' s)
       → ((s : ℕ) → s < n → upper s ≡ upper' s) → worstFirst lower upper n ≡ worstFirst lower' upper' n
   order-is-of-the-states-below-n n lower' upper' h k = order-same lower upper lower' upper' n h k
+
+-- T10. What the moves say of a path is what its probability is. Of an until, where x and y say where the operands hold:
+module _ (c : Chain) (t : ℕ) (x y : ℕ → Bool) (s : ℕ) (l : s < c .states) where
+  -- possible: from some depth on the quotients stay above some fixed fraction
+  pub possible-is-more-than-0 : UntilPossible c t x y s → LimitIs More 0 (FromSome (untilQuotient c t x y s))
+  possible-is-more-than-0 h = until-some c x y s l t h
+
+  -- not possible: where nothing leads to the second operand every step value is 0; and every quotient is, at time 0 too
+  pub where-nothing-leads-step-values-are-0 : (Leads c x y s → ⊥) → (k : ℕ) → stepTop c (untilPhase x y) k s ≡ 0
+  where-nothing-leads-step-values-are-0 h k = unled-none c x y k s l h
+
+  pub impossible-quotients-are-0 : (UntilPossible c t x y s → ⊥) → (n : ℕ) → untilQuotient c t x y s n .top ≡ 0
+  impossible-quotients-are-0 h n = impossible-quotients c x y s l t h n
+
+  -- certain: every quotient is 1; not certain: from some depth on they stay below 1 − 1/m, for some m
+  pub certain-quotients-are-1 : UntilCertain y s → (n : ℕ) → untilQuotient c t x y s n .top ≡ untilQuotient c t x y s n .bottom
+  certain-quotients-are-1 h n = until-one c t x y s l h n
+
+  pub uncertain-is-less-than-1 : (UntilCertain y s → ⊥) → LimitIs Less billion (FromSome (untilQuotient c t x y s))
+  uncertain-is-less-than-1 h = until-part c x y s l t h
+
+-- and of a next move
+module _ (c : Chain) (x : ℕ → Bool) (s : ℕ) where
+  pub next-possible-exactly-above-0 : (Enters c x s → 0 < nextFraction c x s .top) × (0 < nextFraction c x s .top → Enters c x s)
+  next-possible-exactly-above-0 = (next-some c x s, next-entered c x s)
+
+  pub next-certain-exactly-at-1 : (EntersOnly c x s → nextFraction c x s .top ≡ nextFraction c x s .bottom)
+      × (nextFraction c x s .top ≡ nextFraction c x s .bottom → EntersOnly c x s)
+  next-certain-exactly-at-1 = (next-full c x s, λ e. next-all c x s (omega (arith, e)))
 
 -- The reader of formulas is the grammar as document 01 lists it: tokens are read as a formula exactly where they spell it, so a text has
 -- at most one reading.

@@ -7,7 +7,8 @@ use Rattle.csl.specs.Fraction.{Fraction, Same, billionths}
 use Rattle.csl.specs.Chain.{Chain, topRate, load, depth}
 use Rattle.csl.specs.Phase.{Phase, bit, stepValue, quotient}
 use Rattle.csl.specs.Limit.{limit}
-use Rattle.csl.specs.Verdicts.{Verdict, No, Yes, least, most, judged}
+use Rattle.csl.specs.Verdicts.{Verdict, No, Yes, least, most}
+use Rattle.csl.specs.Graph.{UntilPossible, UntilCertain, AllDecided, Ruled}
 use Rattle.csl.specs.Meaning.{Meaning}
 
 -- "At step 0 it is 1 where the second operand holds, else 0. At each later step it is 1 where the second operand holds and 0 where neither
@@ -48,5 +49,7 @@ untilMeaning c t a b =
       value = λ reading s. limit (depth c t) (untilQuotient c t (reading a) (reading b) s);
       slack = untilSlack c t;
       Points = λ verdicts s lower upper. UntilPoints c t (verdicts a) (verdicts b) s lower upper;
-      Follows = λ verdicts r p s lower upper v. v ≡ judged r p lower upper;
+      Follows = λ verdicts r p s v interval.
+          Ruled (AllDecided c (verdicts a) × AllDecided c (verdicts b)) r p
+          (UntilPossible c t (least (verdicts a)) (least (verdicts b)) s) (UntilCertain (least (verdicts b)) s) v interval;
     }

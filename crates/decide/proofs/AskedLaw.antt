@@ -10,7 +10,8 @@ use Rattle.csl.specs.Formula.{Formula, levels, levelsIn}
 use Rattle.csl.specs.Formula as csl
 use Rattle.csl.specs.Chain.{Chain}
 use Rattle.numbers.specs.Filled.{at}
-use Rattle.vectors.specs.Places.{marksFrom, EndsStored}
+use Rattle.incoming_moves.specs.Shown.{IndexShows, index-kept}
+use Rattle.vectors.specs.Places.{ownsFrom, marksFrom, EndsStored}
 use Rattle.vectors.specs.Prepared.{Prepared, prepared-kept}
 use Rattle.vectors.specs.Owns.{Owns, owns-kept}
 use Rattle.formula.specs.Nodes.{kindAt}
@@ -24,9 +25,9 @@ use Rattle.decide.specs.Asked.{Marked, DecideAsked, formulaOf, Decides}
 use Rattle.decide.specs.Rows.{rowsOf}
 
 -- what a call leaves: the node's report, if it was asked
-abbrev pub Leaves : (mv l l' marks marks' : List ℕ) (nodes : List Node) (node limit n q r : ℕ) → Type 0
-Leaves mv l l' marks marks' nodes node limit n q r =
-    (a : DecideAsked mv l marks nodes node limit n q) → Decides (a .c) (formulaOf a) n l l' marks marks' r
+abbrev pub Leaves : (mv ix l l' marks marks' : List ℕ) (nodes : List Node) (node limit n q r : ℕ) → Type 0
+Leaves mv ix l l' marks marks' nodes node limit n q r =
+    (a : DecideAsked mv ix l marks nodes node limit n q) → Decides (a .c) (formulaOf a) n l l' marks marks' r
 
 -- a formula has a level
 pub levels-some : (f : Formula) → 1 ≤ levels f
@@ -38,7 +39,7 @@ levels-some (csl.both g h) = omega arith
 levels-some (csl.chance r p w) = omega arith
 
 -- so no node is asked with 0 levels
-pub leaves-none : {mv l marks : List ℕ} {nodes : List Node} {node limit n q r : ℕ} → limit ≡ 0 → Leaves mv l l marks marks nodes node limit n q r
+pub leaves-none : {mv ix l marks : List ℕ} {nodes : List Node} {node limit n q r : ℕ} → limit ≡ 0 → Leaves mv ix l l marks marks nodes node limit n q r
 leaves-none z a = absurd (omega (arith, a .deep, levels-some (formulaOf a)))
 
 -- the words of the labels' marks stay, and the words stay prepared
@@ -47,7 +48,7 @@ pub marked-kept : (c : Chain) (names : List Text) {l l' : List ℕ} {n : ℕ} {f
 marked-kept c names {n = n} m b i h s k = rw (b .after (marksFrom n + s) (omega arith)) (m i h s k)
 
 pub still-prepared : {mv l l' : List ℕ} {n q : ℕ} {f g : ℕ → ℕ} → Prepared mv l n q → EndsStored f g n l l' → Prepared mv l' n q
-still-prepared p b = prepared-kept p (b .same) (λ k h i. b .after k h)
+still-prepared p b = prepared-kept p (b .same) (λ k h i o. b .after k h)
 
 -- a node of two operands has two levels, any other one
 rows-levels : (names : List Text) (look : ℕ → Formula) (k : Kind) → rowsOf (operandsOf k) ≤ levels (formulaOver names look k)
@@ -62,7 +63,11 @@ rows-levels names look (kind.Chance c p (path.Next x)) = omega arith
 pub still-owns : {c : Chain} {l l' : List ℕ} {n : ℕ} {f g : ℕ → ℕ} → Owns c l n → EndsStored f g n l l' → Owns c l' n
 still-owns o b = owns-kept o (b .after)
 
-module _ {mv l marks : List ℕ} {nodes : List Node} {node limit n q : ℕ} (a : DecideAsked mv l marks nodes node (suc limit) n q) where
+pub still-index : {c : Chain} {ix l l' : List ℕ} {n : ℕ} {f g : ℕ → ℕ} → IndexShows c ix l (ownsFrom n) n → EndsStored f g n l l'
+    → IndexShows c ix l' (ownsFrom n) n
+still-index {n = n} i b = index-kept i (λ t h. b .after (ownsFrom n + t) (omega arith))
+
+module _ {mv ix l marks : List ℕ} {nodes : List Node} {node limit n q : ℕ} (a : DecideAsked mv ix l marks nodes node (suc limit) n q) where
   -- rows for as many levels, and the node's own
   pub room-for : (k : ℕ) → k ≤ levels (formulaOf a) → k * n ≤ length marks
   room-for k h = omega (arith, a .room, mul-le-mul-right n h)
@@ -72,9 +77,9 @@ module _ {mv l marks : List ℕ} {nodes : List Node} {node limit n q : ℕ} (a :
   under x = formulaAt (a .names) limit nodes x
 
   -- an operand is asked, with a level less, of other words and marks
-  abbrev pub operand : (x : ℕ) (l' m : List ℕ) → x < node → Prepared mv l' n q → Owns (a .c) l' n → Marked (a .c) (a .names) l' n → levels (under x) ≤ limit
-      → levels (under x) * n ≤ length m → ((k : ℕ) → n ≤ k → at m k ≡ 0) → DecideAsked mv l' m nodes x limit n q
-  operand x l' m h prepared owns marked deep room clear =
+  abbrev pub operand : (x : ℕ) (l' m : List ℕ) → x < node → Prepared mv l' n q → Owns (a .c) l' n → IndexShows (a .c) ix l' (ownsFrom n) n → Marked (a .c) (a .names) l' n → levels (under x) ≤ limit
+      → levels (under x) * n ≤ length m → ((k : ℕ) → n ≤ k → at m k ≡ 0) → DecideAsked mv ix l' m nodes x limit n q
+  operand x l' m h prepared owns index marked deep room clear =
       record {
         c = a .c;
         names = a .names;
@@ -82,6 +87,8 @@ module _ {mv l marks : List ℕ} {nodes : List Node} {node limit n q : ℕ} (a :
         shows = a .shows;
         prepared = prepared;
         owns = owns;
+        few-words = a .few-words;
+        index = index;
         marked = marked;
         inside = omega (arith, a .inside);
         fits = λ k i. a .fits k (omega arith);

@@ -14,20 +14,22 @@ use Rattle.formula.specs.declared.nodes.Path.the-variants as path
 use Rattle.decide.specs.Rows.{RowsHold}
 use Rattle.decide.specs.Chance.{UntilAsked, UntilLeaves, NextAsked, NextLeaves, ChanceAsked, ChanceLeaves}
 
-module _ {mv l marks : List ℕ} {o : Path} {p n q : ℕ} (a : ChanceAsked mv l marks o p n q) where
+module _ {mv ix l marks : List ℕ} {o : Path} {p n q : ℕ} (a : ChanceAsked mv ix l marks o p n q) where
   module _ {t x y : ℕ} (e : o ≡ path.Until t x y) where
-    abbrev pub may-until : UntilAsked mv l marks n q t p
+    abbrev pub may-until : UntilAsked mv ix l marks n q t p
     may-until =
         record {
           c = a .c;
           shows = a .shows;
           prepared = a .prepared;
+          few-words = a .few-words;
+          index = a .index;
           load = leb-true (q * t) mostRateHundredths (rw e at (a .load));
           threshold = a .threshold;
           held = let h : 2 * n ≤ length marks = rw e at (a .held) in omega arith;
         }
 
-    pub until-decided : {r : Comparison} {l' m : List ℕ} {d : ℕ} → ((b : UntilAsked mv l marks n q t p) → UntilLeaves b r l' m d) → ChanceLeaves a r l' m d
+    pub until-decided : {r : Comparison} {l' m : List ℕ} {d : ℕ} → ((b : UntilAsked mv ix l marks n q t p) → UntilLeaves b r l' m d) → ChanceLeaves a r l' m d
     until-decided {r} {l'} {m} {d} u vs h =
         let rows : RowsHold (operandsIn (pathMeant (path.Until t x y))) vs marks n = rw e at h in
         let z = u may-until (vs x) (vs y) (rows .0) (rows .1) in

@@ -10,7 +10,8 @@ use lib.ListN.{length}
 use borrow.Author.Tests.{ltb-true, ltb-false}
 use Rattle.csl.specs.Formula.{levels}
 use Rattle.numbers.specs.Filled.{at, Table, table, table-at, table-rest}
-use Rattle.vectors.specs.Places.{marksFrom}
+use Rattle.incoming_moves.specs.Shown.{index-kept}
+use Rattle.vectors.specs.Places.{ownsFrom, marksFrom}
 use Rattle.vectors.specs.Prepared.{prepared-kept}
 use Rattle.vectors.specs.Owns.{owns-kept}
 use Rattle.formula.specs.Nodes.{kindAt}
@@ -42,7 +43,7 @@ row-stands (Two x y) f n m₀ m₁ m₂ c d e t =
         let j : n + n ≤ k = ltb-false k (n + n) i in
         t .else k (λ b z. omega arith) (λ b z. omega arith) ∙ d k (omega arith) ∙ sym (c k h)
 
-module _ {mv l marks : List ℕ} {nodes : List Node} {node limit n q : ℕ} (a : DecideAsked mv l marks nodes node limit n q) (some : limit ≡ 0 → ⊥) where
+module _ {mv ix l marks : List ℕ} {nodes : List Node} {node limit n q : ℕ} (a : DecideAsked mv ix l marks nodes node limit n q) (some : limit ≡ 0 → ⊥) where
   more : limit ≡ suc (limit - 1)
   more = omega arith
 
@@ -50,7 +51,7 @@ module _ {mv l marks : List ℕ} {nodes : List Node} {node limit n q : ℕ} (a :
   same-formula = ap (λ (z : ℕ). formulaAt (a .names) z nodes node) (sym more)
 
   -- its operands are asked
-  abbrev pub may-operands : DecideAsked mv l marks nodes node (suc (limit - 1)) n q
+  abbrev pub may-operands : DecideAsked mv ix l marks nodes node (suc (limit - 1)) n q
   may-operands =
       record {
         c = a .c;
@@ -59,6 +60,8 @@ module _ {mv l marks : List ℕ} {nodes : List Node} {node limit n q : ℕ} (a :
         shows = a .shows;
         prepared = a .prepared;
         owns = a .owns;
+        few-words = a .few-words;
+        index = a .index;
         marked = a .marked;
         inside = a .inside;
         fits = a .fits;
@@ -69,15 +72,17 @@ module _ {mv l marks : List ℕ} {nodes : List Node} {node limit n q : ℕ} (a :
 
   module _ {l₁ m₁ : List ℕ} (left : OperandsLeft may-operands l₁ m₁) where
     -- and then the node itself
-    abbrev pub may-report : NodeAsked mv l₁ m₁ (kindAt nodes node) n q
+    abbrev pub may-report : NodeAsked mv ix l₁ m₁ (kindAt nodes node) n q
     may-report =
         record {
           c = a .c;
           names = a .names;
           few = a .few;
           shows = a .shows;
-          prepared = prepared-kept (a .prepared) (left .same) (λ k h i. left .after k h);
+          prepared = prepared-kept (a .prepared) (left .same) (λ k h i o. left .after k h);
           owns = owns-kept (a .owns) (left .after);
+          few-words = a .few-words;
+          index = index-kept (a .index) (λ t h. left .after (ownsFrom n + t) (omega arith));
           marked = λ i h s k. rw (left .after (marksFrom n + s) (omega arith)) (a .marked i h s k);
           label = a .fits node (omega arith) .label;
           limits = a .fits node (omega arith) .limits;
@@ -85,7 +90,7 @@ module _ {mv l marks : List ℕ} {nodes : List Node} {node limit n q : ℕ} (a :
           held = omega (arith, left .held, room-for may-operands (rowsOf (operandsOf (kindAt nodes node))) (rows-most may-operands));
         }
 
-    pub is-decided : {l₂ m₂ : List ℕ} {r : ℕ} → ((b : NodeAsked mv l₁ m₁ (kindAt nodes node) n q) → NodeLeaves b l₂ m₂ r)
+    pub is-decided : {l₂ m₂ : List ℕ} {r : ℕ} → ((b : NodeAsked mv ix l₁ m₁ (kindAt nodes node) n q) → NodeLeaves b l₂ m₂ r)
         → Decides (a .c) (formulaOf a) n l l₂ marks m₂ r
     is-decided {l₂} {m₂} {r} t =
         let z : NodeDecided (a .c) (formulaOver (a .names) (under may-operands) (kindAt nodes node)) (operandsOf (kindAt nodes node)) n l₁ l₂ m₁ m₂ r

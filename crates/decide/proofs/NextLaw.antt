@@ -8,13 +8,14 @@ use Rattle.csl.specs.Formula.{Comparison}
 use Rattle.csl.specs.Verdicts.{Verdict}
 use Rattle.csl.specs.Next.{nextLower, nextUpper}
 use Rattle.csl.specs.Laws.NextEnds.{ends-next}
-use Rattle.numbers.specs.Filled.{at, Table, filled-as}
-use Rattle.verdicts.specs.Byte.{verdictAt}
+use Rattle.numbers.specs.Filled.{at, filled-as}
+use Rattle.csl.specs.Laws.Decided.{all-decided-same}
+use Rattle.verdicts.specs.Byte.{verdictAt, verdicts}
 use Rattle.vectors.specs.Places.{EndsStored}
 use Rattle.next_move.specs.Ends as next
 use Rattle.next_move.specs.Shown.{exit-is, lower-is, upper-is}
 use Rattle.verdict_rows.specs.Row.{EndsIn}
-use Rattle.verdict_rows.specs.Byte.{judgedByte}
+use Rattle.judgement.specs.Judged.{NextJudgeAsked, NextJudged}
 use Rattle.decide.specs.Chance.{NextAsked, NextLeaves}
 use Rattle.decide.proofs.RowsLaw.{ends-as}
 use Rattle.decide.proofs.ReportLaw.{ends-in}
@@ -41,18 +42,18 @@ module _ {mv l l' marks : List ℕ} {n p : ℕ} (a : NextAsked mv l marks n p)
         ends-in ends-are (omega (arith, a .prepared .rates .long)) (λ s b. ends-next (a .c) v s .lower-range) (λ s b. ends-next (a .c) v s .upper-range)
 
   -- so the row may be judged
-  pub ends-left : EndsIn n l'
-  ends-left = ends-range (λ s. verdictAt (at marks s)) (λ s b. refl)
+  pub may-judge-next : NextJudgeAsked l' marks n
+  may-judge-next = record { ends = ends-range (λ s. verdictAt (at marks s)) (λ s b. refl); held = a .held }
 
 -- and is, for whatever verdicts the row holds
 module _ {mv l l' marks m : List ℕ} {n p d : ℕ} {r : Comparison} (u : EndsStored (next.lowerAt mv l marks n) (next.upperAt mv l marks n) n l l')
-    (j : Table (λ s. judgedByte r p (at l' s) (at l' (n + s))) marks m n) (z : d ≡ 0) where
+    (j : NextJudged r p n l' marks m) (z : d ≡ 0) where
   pub next-left : (a : NextAsked mv l marks n p) → NextLeaves a r l' m d
-  unfolding judgedByte
   next-left a v h =
       record {
-        row = filled-as _ (λ s b. rw (ends-are a u v h .lowers s b, ends-are a u v h .uppers s b) refl) j;
+        row = filled-as _
+            (λ s b. rw (ends-are a u v h .lowers s b, ends-are a u v h .uppers s b, all-decided-same n (verdicts marks) v h, a .shows .states) refl) j;
         report = record { ends = ends-are a u v h; range = ends-range a u v h; deep = z };
       }
 
-pub ruleset next-laws = (may-find, ends-left, next-left)
+pub ruleset next-laws = (may-find, may-judge-next, next-left)

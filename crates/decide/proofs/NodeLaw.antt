@@ -50,7 +50,7 @@ chance-report c r p look (path.Until t x y) z =
     record { row = z .row; ends = z .report .ends; range = z .report .range; deep = z .report .deep }
 chance-report c r p look (path.Next x) z = record { row = z .row; ends = z .report .ends; range = z .report .range; deep = z .report .deep }
 
-module _ {mv l marks : List ℕ} {k : Kind} {n q : ℕ} (a : NodeAsked mv l marks k n q) where
+module _ {mv ix l marks : List ℕ} {k : Kind} {n q : ℕ} (a : NodeAsked mv ix l marks k n q) where
   by-kind : {l' m : List ℕ} {r : ℕ} (g : Kind) → k ≡ g
       → ((look : ℕ → Formula) → RowsHold (operandsOf g) (λ x. found (a .c) (look x)) marks n
       → NodeDecided (a .c) (formulaOver (a .names) look g) (operandsOf g) n l l' marks m r)
@@ -116,19 +116,21 @@ module _ {mv l marks : List ℕ} {k : Kind} {n q : ℕ} (a : NodeAsked mv l mark
 
   -- `P`
   module _ {sign : code.Comparison} {p : ℕ} {o : Path} (e : k ≡ kind.Chance sign p o) where
-    abbrev pub may-chance : ChanceAsked mv l marks o p n q
+    abbrev pub may-chance : ChanceAsked mv ix l marks o p n q
     may-chance =
         record {
           c = a .c;
           shows = a .shows;
           prepared = a .prepared;
           owns = a .owns;
+          few-words = a .few-words;
+          index = a .index;
           load = rw e at (a .load);
           threshold = leb-true p mostThreshold (and-eq-true-iff (leb p mostThreshold) _ .0 (rw e at (a .limits)) .0);
           held = rw e at (a .held);
         }
 
-    pub chance-left : {l' m : List ℕ} {r : ℕ} → ((b : ChanceAsked mv l marks o p n q) → ChanceLeaves b (comparisonOf sign) l' m r) → NodeLeaves a l' m r
+    pub chance-left : {l' m : List ℕ} {r : ℕ} → ((b : ChanceAsked mv ix l marks o p n q) → ChanceLeaves b (comparisonOf sign) l' m r) → NodeLeaves a l' m r
     chance-left t =
         by-kind (kind.Chance sign p o) e λ look h. chance-report (a .c) (comparisonOf sign) p look o (t may-chance (λ x. found (a .c) (look x)) h)
 

@@ -24,7 +24,7 @@ use Rattle.formula.specs.declared.operands.Operands.the-variants.{None, One, Tw
 use Rattle.decide.specs.Asked.{DecideAsked, formulaOf}
 use Rattle.decide.specs.Rows.{rowsOf, RowsHold}
 use Rattle.decide.proofs.RowsLaw.{ends-over, first-row, second-row}
-use Rattle.decide.proofs.AskedLaw.{Leaves, levels-some, marked-kept, still-prepared, still-owns, room-for, under, operand, of-kind}
+use Rattle.decide.proofs.AskedLaw.{Leaves, levels-some, marked-kept, still-prepared, still-owns, still-index, room-for, under, operand, of-kind}
 
 -- a formula has a level more than its operands
 abbrev levelsOver : Operands → (ℕ → ℕ) → ℕ
@@ -42,7 +42,7 @@ levels-over names look (kind.Chance c p (path.Until t x y)) = refl
 levels-over names look (kind.Chance c p (path.Next x)) = refl
 
 -- The operands of a node are decided: their rows hold their verdicts, the rows behind hold 0, and all words but the ends are as they were.
-pub record OperandsLeft {mv l marks : List ℕ} {nodes : List Node} {node limit n q : ℕ} (a : DecideAsked mv l marks nodes node (suc limit) n q)
+pub record OperandsLeft {mv ix l marks : List ℕ} {nodes : List Node} {node limit n q : ℕ} (a : DecideAsked mv ix l marks nodes node (suc limit) n q)
     (l' marks' : List ℕ) : Type 0 where
   pub rows : RowsHold (operandsOf (kindAt nodes node)) (λ x. found (a .c) (formulaAt (a .names) limit nodes x)) marks' n
   pub clear : (k : ℕ) → rowsOf (operandsOf (kindAt nodes node)) * n ≤ k → at marks' k ≡ 0
@@ -50,7 +50,7 @@ pub record OperandsLeft {mv l marks : List ℕ} {nodes : List Node} {node limit 
   pub same : length l' ≡ length l
   pub after : (k : ℕ) → valuesFrom n ≤ k → at l' k ≡ at l k
 
-module _ {mv l marks : List ℕ} {nodes : List Node} {node limit n q : ℕ} (a : DecideAsked mv l marks nodes node (suc limit) n q)
+module _ {mv ix l marks : List ℕ} {nodes : List Node} {node limit n q : ℕ} (a : DecideAsked mv ix l marks nodes node (suc limit) n q)
     (o : Operands) (is : o ≡ operandsOf (kindAt nodes node)) where
   levels-are : (x : Operands) → o ≡ x → levels (formulaOf a) ≡ levelsOver x (λ y. levels (under a y))
   levels-are x e = ap levels (of-kind a (kindAt nodes node) refl) ∙ levels-over (a .names) (under a) (kindAt nodes node) ∙ rw (← is, e) refl
@@ -70,12 +70,12 @@ module _ {mv l marks : List ℕ} {nodes : List Node} {node limit n q : ℕ} (a :
     pub deeper : levels (formulaOf a) ≡ 1 + levels (under a x)
     deeper = levels-are (One x) e
 
-    abbrev pub may-one : DecideAsked mv l marks nodes x limit n q
+    abbrev pub may-one : DecideAsked mv ix l marks nodes x limit n q
     may-one =
-        operand a x l marks (rw (← is, e) at (a .fits node (omega arith) .before)) (a .prepared) (a .owns) (a .marked) (omega (arith, deeper, a .deep))
+        operand a x l marks (rw (← is, e) at (a .fits node (omega arith) .before)) (a .prepared) (a .owns) (a .index) (a .marked) (omega (arith, deeper, a .deep))
         (room-for a (levels (under a x)) (omega (arith, deeper))) (a .clear)
 
-    pub one-left : {l₁ m₁ : List ℕ} {r : ℕ} → Leaves mv l l₁ marks m₁ nodes x limit n q r → OperandsLeft a l₁ m₁
+    pub one-left : {l₁ m₁ : List ℕ} {r : ℕ} → Leaves mv ix l l₁ marks m₁ nodes x limit n q r → OperandsLeft a l₁ m₁
     one-left u =
         let v = u may-one in
         left-by (One x) e (λ s h. ap verdictAt (table-at (v .row) s h) ∙ byte-read (found (a .c) (under a x) s))
@@ -89,25 +89,25 @@ module _ {mv l marks : List ℕ} {nodes : List Node} {node limit n q : ℕ} (a :
     pub before : (x < node) × (y < node)
     before = rw (← is, e) at (a .fits node (omega arith) .before)
 
-    abbrev pub may-first : DecideAsked mv l marks nodes x limit n q
+    abbrev pub may-first : DecideAsked mv ix l marks nodes x limit n q
     may-first =
-        operand a x l marks (before .0) (a .prepared) (a .owns) (a .marked) (omega (arith, deepest, a .deep))
+        operand a x l marks (before .0) (a .prepared) (a .owns) (a .index) (a .marked) (omega (arith, deepest, a .deep))
         (room-for a (levels (under a x)) (omega (arith, deepest))) (a .clear)
 
-    module _ {l₁ m₁ : List ℕ} {r₁ : ℕ} (u : Leaves mv l l₁ marks m₁ nodes x limit n q r₁) where
+    module _ {l₁ m₁ : List ℕ} {r₁ : ℕ} (u : Leaves mv ix l l₁ marks m₁ nodes x limit n q r₁) where
       pub two-rows : n + n ≤ length m₁
       two-rows = omega (arith, room-for a 2 (omega (arith, deepest, levels-some (under a x))), u may-first .row .same)
 
-      abbrev pub may-second : DecideAsked mv l₁ (rest m₁ n) nodes y limit n q
+      abbrev pub may-second : DecideAsked mv ix l₁ (rest m₁ n) nodes y limit n q
       may-second =
           let v = u may-first in
-          operand a y l₁ (rest m₁ n) (before .1) (still-prepared (a .prepared) (v .ends)) (still-owns (a .owns) (v .ends))
+          operand a y l₁ (rest m₁ n) (before .1) (still-prepared (a .prepared) (v .ends)) (still-owns (a .owns) (v .ends)) (still-index (a .index) (v .ends))
           (marked-kept (a .c) (a .names) (a .marked) (v .ends)) (omega (arith, deepest, a .deep))
           (omega (arith, room-for a (1 + levels (under a y)) (omega (arith, deepest)), v .row .same, rest-length m₁ n))
           (λ k h. rest-at m₁ n k ∙ table-rest (v .row) (n + k) (omega arith) ∙ a .clear (n + k) (omega arith))
 
       -- when both are decided
-      module _ {l₂ ys : List ℕ} {r₂ : ℕ} (w : Leaves mv l₁ l₂ (rest m₁ n) ys nodes y limit n q r₂) where
+      module _ {l₂ ys : List ℕ} {r₂ : ℕ} (w : Leaves mv ix l₁ l₂ (rest m₁ n) ys nodes y limit n q r₂) where
         second-filled : Filled (λ s. verdictByte (found (a .c) (under a y) s)) n n m₁ (back m₁ n ys)
         second-filled = part-filled m₁ n (omega (arith, two-rows)) (w may-second .row)
 

@@ -4,27 +4,31 @@ use mathlib.Core.Path.{_≡_, refl, ap, sym, _∙_}
 use mathlib.Core.List.{List}
 use Prim.Native.Nat.{ℕ, _+_, _*_, _≤_, _<_}
 use native.Mathlib.Omega.{arith}
+use native.Mathlib.Nat.{zero-add}
 use lib.ListN.{length}
-use Rattle.csl.specs.Formula.{Comparison}
+use mathlib.Core.Bool.{Bool, true, false}
+use lib.Dec.{ltb}
+use borrow.Author.Tests.{ltb-true, ltb-false}
+use Rattle.csl.specs.Formula.{Comparison, untilOf}
 use Rattle.csl.specs.Chain.{Chain, topRate, load, depth}
 use Rattle.csl.specs.Until.{untilPhase}
 use Rattle.csl.specs.Verdicts.{Verdict, least, most}
-use Rattle.numbers.specs.Filled.{at, Table, Filled, filled-as}
+use Rattle.numbers.specs.Filled.{at, Filled, filled-else}
 use Rattle.bounds.specs.Width.{mostDepth}
 use Rattle.bounds.specs.StepValues.{Rounds}
 use Rattle.bounds.specs.Found.{lowerFound, upperFound, lower-found, upper-found, ends-found}
 use Rattle.verdicts.specs.Byte.{verdictAt}
 use Rattle.rate_matrix.specs.Shown.{top-shown}
-use Rattle.vectors.specs.Places.{EndsStored}
+use Rattle.incoming_moves.specs.Shown.{index-kept}
+use Rattle.vectors.specs.Places.{valuesFrom, ownsFrom, EndsStored}
 use Rattle.verdict_rows.specs.Row.{EndsIn}
-use Rattle.verdict_rows.specs.Byte.{judgedByte}
 use Rattle.phase.specs.Value.{valueOf}
 use Rattle.until.specs.Reading.{verdicts, lowPhase, highPhase}
 use Rattle.until.specs.Asked.{Until}
 use Rattle.until.specs.Shown.{low-rounds, high-rounds, depth-shown, lower-shown, upper-shown}
+use Rattle.judgement.specs.Judged.{JudgeAsked, Judges, JudgeLeaves}
 use Rattle.decide.specs.Chance.{UntilAsked, UntilLeaves}
 use Rattle.numbers.specs.Part.{rest, rest-at}
-use Rattle.decide.proofs.RowsLaw.{row-cleared}
 use Rattle.decide.proofs.ReportLaw.{ends-in}
 
 -- rounded values for verdicts are those for equal verdicts
@@ -43,7 +47,7 @@ module _ (c : Chain) (x y v w : ℕ → Verdict) (h : (s : ℕ) → s < c .state
         next = λ i s l. r .next i s l ∙ rw (h s l, k s l) refl;
       }
 
-module _ {mv l l' marks : List ℕ} {n q t p d : ℕ} (a : UntilAsked mv l marks n q t p) (u : Until mv marks (rest marks n) n q t l l' d) where
+module _ {mv ix l l' marks : List ℕ} {n q t p d : ℕ} (a : UntilAsked mv ix l marks n q t p) (u : Until mv marks (rest marks n) n q t l l' d) where
   top : q ≡ topRate (a .c)
   top = a .prepared .rates .top ∙ sym (top-shown (a .shows))
 
@@ -82,26 +86,54 @@ module _ {mv l l' marks : List ℕ} {n q t p d : ℕ} (a : UntilAsked mv l marks
     ends-are : EndsStored (lowerFound (a .c) t v w) (upperFound (a .c) t v w) n l l'
     ends-are = record { same = u .ends .same; lowers = lower-is; uppers = upper-is; after = u .ends .after }
 
-    ends-range : EndsIn n l'
+    pub ends-range : EndsIn n l'
     ends-range =
         ends-in ends-are (omega (arith, a .prepared .rates .long)) (λ s b. ends-found (a .c) t v w shallow s (there s b) .lower-range)
         (λ s b. ends-found (a .c) t v w shallow s (there s b) .upper-range)
 
   -- so the row may be judged
-  pub ends-left : EndsIn n l'
-  ends-left = ends-range (λ s. verdictAt (at marks s)) (λ s. verdictAt (at marks (n + s))) (λ s b. refl) (λ s b. refl)
+  abbrev pub may-judge : JudgeAsked ix l' marks n
+  may-judge =
+      record {
+        c = a .c;
+        states = a .prepared .rates .lines .states;
+        few = a .few-words;
+        long = omega (arith, u .ends .same, a .prepared .rates .long);
+        clear = λ k b. u .ends .after (valuesFrom n + k) (omega arith) ∙ a .prepared .clear .columns (valuesFrom n + k) (omega arith) (omega arith);
+        index = index-kept (a .index) (λ s b. u .ends .after (ownsFrom n + s) (omega arith));
+        ends = ends-range (λ s. verdictAt (at marks s)) (λ s. verdictAt (at marks (n + s))) (λ s b. refl) (λ s b. refl);
+        held = a .held;
+      }
+
+-- what is in neither of two rows is behind them
+behind-both : (n s : ℕ) → (0 ≤ s → s < 0 + n → ⊥) → (n ≤ s → s < n + n → ⊥) → n + n ≤ s
+behind-both n s x y = go (ltb s n) refl (ltb s (n + n)) refl
+  where
+    go : (a : Bool) → ltb s n ≡ a → (b : Bool) → ltb s (n + n) ≡ b → n + n ≤ s
+    go true e b f = absurd (x (omega arith) (omega (arith, ltb-true s n e)))
+    go false e true f = absurd (y (ltb-false s n e) (ltb-true s (n + n) f))
+    go false e false f = ltb-false s (n + n) f
 
 -- and is, for whatever verdicts the rows hold
-module _ {mv l l' marks m₁ m₂ : List ℕ} {n q t p d : ℕ} {r : Comparison} (u : Until mv marks (rest marks n) n q t l l' d)
-    (j : Table (λ s. judgedByte r p (at l' s) (at l' (n + s))) marks m₁ n) (z : Filled (λ s. 0) n n m₁ m₂) where
-  pub until-left : (a : UntilAsked mv l marks n q t p) → UntilLeaves a r l' m₂ d
-  unfolding judgedByte
+module _ {mv ix l l' marks m₁ m₂ : List ℕ} {n q t p d : ℕ} {r : Comparison} (u : Until mv marks (rest marks n) n q t l l' d)
+    (j : (b : JudgeAsked ix l' marks n) → JudgeLeaves b r p t m₁) (z : Filled (λ s. 0) n n m₁ m₂) where
+  until-left : (a : UntilAsked mv ix l marks n q t p) → UntilLeaves a r l' m₂ d
   until-left a v w h k =
+      let g : Judges (a .c) r p (untilOf t v w) n l' marks m₁ = j (may-judge a u) v w (record { first = h; second = k }) in
       record {
-        rows = row-cleared (filled-as _ (λ s b. rw (lower-is a u v w h k s b, upper-is a u v w h k s b) refl) j) z;
+        rows = record {
+          same = z .same ∙ g .same;
+          first = λ s b. z .before (0 + s) (omega arith) ∙ ap (at m₁) (zero-add s) ∙ g .row s b ∙ rw (lower-is a u v w h k s b, upper-is a u v w h k s b) refl;
+          second = z .filled;
+          else = λ s x y. filled-else z s y ∙ g .beyond s (behind-both n s x y);
+        };
         report = record {
           ends = ends-are a u v w h k;
           range = ends-range a u v w h k;
           deep = depth-shown (a .shows) (a .prepared .rates .top) u;
         };
       }
+
+  -- also where the words are called otherwise
+  pub until-left-in : (l₂ : List ℕ) → l₂ ≡ l' → (a : UntilAsked mv ix l marks n q t p) → UntilLeaves a r l₂ m₂ d
+  until-left-in l₂ e a = rw e (until-left a)

@@ -6,7 +6,7 @@ use Prim.Native.Nat.{ℕ, _+_, _*_, _/_, _%_, _^_, _≤_, _<_}
 use lib.ListN.{length, getD}
 use lib.Dec.{eqb}
 use Rattle.csl.specs.Text.{Text}
-use Rattle.csl.specs.Limits.{mostNames, mostNodes}
+use Rattle.csl.specs.Limits.{mostNames, mostMoves, mostNodes}
 use Rattle.csl.specs.Formula.{Formula, levels}
 use Rattle.csl.specs.Chain.{Chain}
 use Rattle.csl.specs.Report.{depthOf}
@@ -14,7 +14,8 @@ use Rattle.csl.specs.Lent.{verdictByte}
 use Rattle.numbers.specs.Filled.{at, Table}
 use Rattle.bounds.specs.Found.{found, reportLower, reportUpper}
 use Rattle.rate_matrix.specs.Shown.{Shows}
-use Rattle.vectors.specs.Places.{marksFrom, EndsStored}
+use Rattle.incoming_moves.specs.Shown.{IndexShows}
+use Rattle.vectors.specs.Places.{ownsFrom, marksFrom, EndsStored}
 use Rattle.vectors.specs.Prepared.{Prepared}
 use Rattle.vectors.specs.Owns.{Owns}
 use Rattle.verdict_rows.specs.Row.{EndsIn}
@@ -38,14 +39,16 @@ pub record NodeFits (names : List Text) (q k : ℕ) (x : Kind) : Type 0 where
   pub load : passed (Load q) x ≡ true
 
 -- A node is to be decided whose formula has no more levels than the limit: the words are prepared for a chain c whose labels have these names,
--- its rates to the own state are in their column, and the marks have a row for each level, all of which but the first hold 0.
-pub record DecideAsked (mv l marks : List ℕ) (nodes : List Node) (node limit n q : ℕ) : Type 0 where
+-- its rates to the own state are in their column, the index of its moves is there, and the marks have a row for each level, all of which but the first hold 0.
+pub record DecideAsked (mv ix l marks : List ℕ) (nodes : List Node) (node limit n q : ℕ) : Type 0 where
   pub c : Chain
   pub names : List Text
   pub few : length names ≤ mostNames
   pub shows : Shows c mv (length mv) n
   pub prepared : Prepared mv l n q
   pub owns : Owns c l n
+  pub few-words : length ix ≤ mostMoves
+  pub index : IndexShows c ix l (ownsFrom n) n
   pub marked : Marked c names l n
   pub inside : node < mostNodes
   pub fits : (k : ℕ) → k ≤ node → NodeFits names q k (kindAt nodes k)
@@ -54,7 +57,7 @@ pub record DecideAsked (mv l marks : List ℕ) (nodes : List Node) (node limit n
   pub clear : (k : ℕ) → n ≤ k → at marks k ≡ 0
 
 -- the formula of the node
-abbrev pub formulaOf : {mv l marks : List ℕ} {nodes : List Node} {node limit n q : ℕ} → DecideAsked mv l marks nodes node limit n q → Formula
+abbrev pub formulaOf : {mv ix l marks : List ℕ} {nodes : List Node} {node limit n q : ℕ} → DecideAsked mv ix l marks nodes node limit n q → Formula
 formulaOf {nodes = nodes} {node = node} {limit = limit} a = formulaAt (a .names) limit nodes node
 
 -- The report of a formula f over a chain c: the first row holds its verdicts, the first 2 * n vector words its ends, and all else is as it

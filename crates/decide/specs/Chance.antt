@@ -4,7 +4,7 @@ use mathlib.Core.Bool.{true}
 use mathlib.Core.List.{List}
 use Prim.Native.Nat.{ℕ, _+_, _*_, _≤_, _<_}
 use lib.ListN.{length}
-use Rattle.csl.specs.Limits.{mostThreshold, mostRateHundredths}
+use Rattle.csl.specs.Limits.{mostMoves, mostThreshold, mostRateHundredths}
 use Rattle.csl.specs.Formula.{PathOf, untilOf, nextOf, mapped, phasesPass, Comparison}
 use Rattle.csl.specs.Chain.{Chain}
 use Rattle.csl.specs.Verdicts.{Verdict}
@@ -14,7 +14,8 @@ use Rattle.numbers.specs.Filled.{at, Table, Twin}
 use Rattle.bounds.specs.Found.{lowerPath, upperPath, verdictPath}
 use Rattle.verdicts.specs.Byte.{verdictAt}
 use Rattle.rate_matrix.specs.Shown.{Shows}
-use Rattle.vectors.specs.Places.{EndsStored}
+use Rattle.incoming_moves.specs.Shown.{IndexShows}
+use Rattle.vectors.specs.Places.{ownsFrom, EndsStored}
 use Rattle.vectors.specs.Prepared.{Prepared}
 use Rattle.vectors.specs.Owns.{Owns}
 use Rattle.verdict_rows.specs.Row.{EndsIn}
@@ -35,10 +36,12 @@ abbrev pub chanceByte : Chain → Comparison → ℕ → PathOf (ℕ → Verdict
 chanceByte c r p o s = verdictByte (verdictPath c r p o s)
 
 -- A `P` with the threshold p, over an until of t hundredths of an hour, is to be decided from the rows of its operands.
-pub record UntilAsked (mv l marks : List ℕ) (n q t p : ℕ) : Type 0 where
+pub record UntilAsked (mv ix l marks : List ℕ) (n q t p : ℕ) : Type 0 where
   pub c : Chain
   pub shows : Shows c mv (length mv) n
   pub prepared : Prepared mv l n q
+  pub few-words : length ix ≤ mostMoves
+  pub index : IndexShows c ix l (ownsFrom n) n
   pub load : q * t ≤ mostRateHundredths
   pub threshold : p ≤ mostThreshold
   pub held : n + n ≤ length marks
@@ -48,7 +51,7 @@ pub record UntilDecided (c : Chain) (r : Comparison) (p : ℕ) (o : PathOf (ℕ 
   pub rows : Twin (chanceByte c r p o) (λ _. 0) 0 n n marks₀ marks
   pub report : PathEnds c o n l₀ l d
 
-abbrev pub UntilLeaves : {mv l marks : List ℕ} {n q t p : ℕ} → UntilAsked mv l marks n q t p → Comparison → (l' marks' : List ℕ) → ℕ → Type 0
+abbrev pub UntilLeaves : {mv ix l marks : List ℕ} {n q t p : ℕ} → UntilAsked mv ix l marks n q t p → Comparison → (l' marks' : List ℕ) → ℕ → Type 0
 UntilLeaves {l = l} {marks = marks} {n = n} {t = t} {p = p} a r l' marks' d =
     (v w : ℕ → Verdict) → ((s : ℕ) → s < n → verdictAt (at marks s) ≡ v s) → ((s : ℕ) → s < n → verdictAt (at marks (n + s)) ≡ w s)
     → UntilDecided (a .c) r p (untilOf t v w) n l l' marks marks' d
@@ -72,11 +75,13 @@ NextLeaves {l = l} {marks = marks} {n = n} {p = p} a r l' marks' d =
     (v : ℕ → Verdict) → ((s : ℕ) → s < n → verdictAt (at marks s) ≡ v s) → NextDecided (a .c) r p (nextOf v) n l l' marks marks' d
 
 -- And over any path.
-pub record ChanceAsked (mv l marks : List ℕ) (path : Path) (p n q : ℕ) : Type 0 where
+pub record ChanceAsked (mv ix l marks : List ℕ) (path : Path) (p n q : ℕ) : Type 0 where
   pub c : Chain
   pub shows : Shows c mv (length mv) n
   pub prepared : Prepared mv l n q
   pub owns : Owns c l n
+  pub few-words : length ix ≤ mostMoves
+  pub index : IndexShows c ix l (ownsFrom n) n
   pub load : phasesPass (lightOf q) (pathMeant path) ≡ true
   pub threshold : p ≤ mostThreshold
   pub held : rowsOf (operandsIn (pathMeant path)) * n ≤ length marks
@@ -86,6 +91,6 @@ pub record ChanceDecided (c : Chain) (r : Comparison) (p : ℕ) (path : Path) (v
   pub report : PathEnds c (mapped vs (pathMeant path)) n l₀ l d
 
 -- where vs has the verdicts of the operands, by their places
-abbrev pub ChanceLeaves : {mv l marks : List ℕ} {path : Path} {p n q : ℕ} → ChanceAsked mv l marks path p n q → Comparison → (l' marks' : List ℕ) → ℕ → Type 0
+abbrev pub ChanceLeaves : {mv ix l marks : List ℕ} {path : Path} {p n q : ℕ} → ChanceAsked mv ix l marks path p n q → Comparison → (l' marks' : List ℕ) → ℕ → Type 0
 ChanceLeaves {l = l} {marks = marks} {path = path} {p = p} {n = n} a r l' marks' d =
     (vs : ℕ → ℕ → Verdict) → RowsHold (operandsIn (pathMeant path)) vs marks n → ChanceDecided (a .c) r p path vs n l l' marks marks' d

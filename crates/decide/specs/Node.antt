@@ -5,14 +5,15 @@ use mathlib.Core.List.{List}
 use Prim.Native.Nat.{ℕ, _*_, _≤_}
 use lib.ListN.{length}
 use Rattle.csl.specs.Text.{Text}
-use Rattle.csl.specs.Limits.{mostNames}
+use Rattle.csl.specs.Limits.{mostNames, mostMoves}
 use Rattle.csl.specs.Formula.{Formula}
 use Rattle.csl.specs.Chain.{Chain}
 use Rattle.csl.specs.Report.{depthOf}
 use Rattle.csl.specs.Lent.{verdictByte}
 use Rattle.bounds.specs.Found.{found, reportLower, reportUpper}
 use Rattle.rate_matrix.specs.Shown.{Shows}
-use Rattle.vectors.specs.Places.{EndsStored}
+use Rattle.incoming_moves.specs.Shown.{IndexShows}
+use Rattle.vectors.specs.Places.{ownsFrom, EndsStored}
 use Rattle.vectors.specs.Prepared.{Prepared}
 use Rattle.vectors.specs.Owns.{Owns}
 use Rattle.verdict_rows.specs.Row.{EndsIn}
@@ -26,13 +27,15 @@ use Rattle.decide.specs.Asked.{Marked}
 use Rattle.decide.specs.Rows.{rowsOf, RowsHold, RowLeft}
 
 -- A node of this kind is to be decided from the rows of its operands; it passes the tests that are put to all nodes.
-pub record NodeAsked (mv l marks : List ℕ) (kind : Kind) (n q : ℕ) : Type 0 where
+pub record NodeAsked (mv ix l marks : List ℕ) (kind : Kind) (n q : ℕ) : Type 0 where
   pub c : Chain
   pub names : List Text
   pub few : length names ≤ mostNames
   pub shows : Shows c mv (length mv) n
   pub prepared : Prepared mv l n q
   pub owns : Owns c l n
+  pub few-words : length ix ≤ mostMoves
+  pub index : IndexShows c ix l (ownsFrom n) n
   pub marked : Marked c names l n
   pub label : passed (Labels (length names)) kind ≡ true
   pub limits : passed Limits kind ≡ true
@@ -47,7 +50,7 @@ pub record NodeDecided (c : Chain) (f : Formula) (operands : Operands) (n : ℕ)
   pub deep : r ≡ depthOf c f
 
 -- whatever the formulas are whose verdicts the rows hold: `look` has them by the places of the operands
-abbrev pub NodeLeaves : {mv l marks : List ℕ} {kind : Kind} {n q : ℕ} → NodeAsked mv l marks kind n q → (l' marks' : List ℕ) → ℕ → Type 0
+abbrev pub NodeLeaves : {mv ix l marks : List ℕ} {kind : Kind} {n q : ℕ} → NodeAsked mv ix l marks kind n q → (l' marks' : List ℕ) → ℕ → Type 0
 NodeLeaves {l = l} {marks = marks} {kind = kind} {n = n} a l' marks' r =
     (look : ℕ → Formula) → RowsHold (operandsOf kind) (λ x. found (a .c) (look x)) marks n
     → NodeDecided (a .c) (formulaOver (a .names) look kind) (operandsOf kind) n l l' marks marks' r

@@ -8,6 +8,7 @@ ghost use Rattle.decide.specs.Chance.{UntilAsked, UntilLeaves, NextAsked
 // Over an until, the row of whose first operand is its own; that of the second, behind it, is put back to 0.
 fn over_until(
     moves: &[u64],
+    index: &[u64],
     vectors: &mut [u64],
     marks: &mut [u8],
     n: usize,
@@ -16,13 +17,21 @@ fn over_until(
     comparison: Comparison,
     threshold: u64,
 ) -> usize
-    requires { ⌜ UntilAsked (now moves) (now vectors) (now marks) n q hundredths threshold ⌝ }
-    ensures { λ r. ⌜ ((a : UntilAsked (now (moves .entry)) (now (vectors .entry)) (now (marks .entry)) n q hundredths threshold)
+    requires { ⌜ UntilAsked (now moves) (now index) (now vectors) (now marks) n q hundredths threshold ⌝ }
+    ensures { λ r. ⌜ ((a : UntilAsked (now (moves .entry)) (now (index .entry)) (now (vectors .entry)) (now (marks .entry)) n q hundredths threshold)
         → UntilLeaves a (comparisonOf comparison) (now (vectors .exit)) (now (marks .exit)) r) ⌝ }
 {
     let rows = &marks[..];
     let depth = until::until(moves, vectors, rows, &rows[n..], n, q, hundredths);
-    verdict_rows::judge(vectors, comparison, threshold as u32, marks, n);
+    judgement::until(
+        index,
+        vectors,
+        marks,
+        n,
+        hundredths,
+        comparison,
+        threshold as u32,
+    );
     clear_second(marks, n);
     depth
 }
@@ -41,7 +50,7 @@ fn over_next(
         → NextLeaves a (comparisonOf comparison) (now (vectors .exit)) (now (marks .exit)) r) ⌝ }
 {
     next_move::next_move(moves, vectors, marks, n);
-    verdict_rows::judge(vectors, comparison, threshold as u32, marks, n);
+    judgement::next(vectors, marks, n, comparison, threshold as u32);
     0
 }
 
@@ -51,13 +60,14 @@ pub fn chance(
     comparison: Comparison,
     threshold: u64,
     moves: &[u64],
+    index: &[u64],
     vectors: &mut [u64],
     marks: &mut [u8],
     n: usize,
     q: u64,
 ) -> usize
-    requires { ⌜ ChanceAsked (now moves) (now vectors) (now marks) path threshold n q ⌝ }
-    ensures { λ r. ⌜ ((a : ChanceAsked (now (moves .entry)) (now (vectors .entry)) (now (marks .entry)) path threshold n q)
+    requires { ⌜ ChanceAsked (now moves) (now index) (now vectors) (now marks) path threshold n q ⌝ }
+    ensures { λ r. ⌜ ((a : ChanceAsked (now (moves .entry)) (now (index .entry)) (now (vectors .entry)) (now (marks .entry)) path threshold n q)
         → ChanceLeaves a (comparisonOf comparison) (now (vectors .exit)) (now (marks .exit)) r) ⌝ }
 {
     match path {
@@ -67,6 +77,7 @@ pub fn chance(
             second: _,
         } => over_until(
             moves,
+            index,
             vectors,
             marks,
             n,

@@ -18,13 +18,14 @@ pub fn decide(
     node: usize,
     levels: usize,
     moves: &[u64],
+    index: &[u64],
     vectors: &mut [u64],
     marks: &mut [u8],
     n: usize,
     q: u64,
 ) -> usize
-    requires { ⌜ DecideAsked (now moves) (now vectors) (now marks) (formula .nodes) node levels n q ⌝ }
-    ensures { λ r. ⌜ ((a : DecideAsked (now (moves .entry)) (now (vectors .entry)) (now (marks .entry)) (formula .nodes) node levels n q)
+    requires { ⌜ DecideAsked (now moves) (now index) (now vectors) (now marks) (formula .nodes) node levels n q ⌝ }
+    ensures { λ r. ⌜ ((a : DecideAsked (now (moves .entry)) (now (index .entry)) (now (vectors .entry)) (now (marks .entry)) (formula .nodes) node levels n q)
         → Decides (a .c) (formulaOf a) n (now (vectors .entry)) (now (vectors .exit)) (now (marks .entry)) (now (marks .exit)) r) ⌝ }
 {
     if levels == 0 {
@@ -34,15 +35,25 @@ pub fn decide(
     let x = formula.nodes[node];
     let kind = x.kind;
     match formula::operands_of(kind) {
-        Operands::None => node::report(kind, moves, vectors, marks, n, q),
+        Operands::None => node::report(kind, moves, index, vectors, marks, n, q),
         Operands::One(a) => {
-            decide(formula, a, below, moves, vectors, marks, n, q);
-            node::report(kind, moves, vectors, marks, n, q)
+            decide(formula, a, below, moves, index, vectors, marks, n, q);
+            node::report(kind, moves, index, vectors, marks, n, q)
         }
         Operands::Two(a, b) => {
-            decide(formula, a, below, moves, vectors, marks, n, q);
-            decide(formula, b, below, moves, vectors, &mut marks[n..], n, q);
-            node::report(kind, moves, vectors, marks, n, q)
+            decide(formula, a, below, moves, index, vectors, marks, n, q);
+            decide(
+                formula,
+                b,
+                below,
+                moves,
+                index,
+                vectors,
+                &mut marks[n..],
+                n,
+                q,
+            );
+            node::report(kind, moves, index, vectors, marks, n, q)
         }
     }
 }

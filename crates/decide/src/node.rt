@@ -8,13 +8,14 @@ ghost use Rattle.decide.specs.Node.{NodeAsked, NodeLeaves};
 pub fn report(
     kind: Kind,
     moves: &[u64],
+    index: &[u64],
     vectors: &mut [u64],
     marks: &mut [u8],
     n: usize,
     q: u64,
 ) -> usize
-    requires { ⌜ NodeAsked (now moves) (now vectors) (now marks) kind n q ⌝ }
-    ensures { λ r. ⌜ ((a : NodeAsked (now (moves .entry)) (now (vectors .entry)) (now (marks .entry)) kind n q)
+    requires { ⌜ NodeAsked (now moves) (now index) (now vectors) (now marks) kind n q ⌝ }
+    ensures { λ r. ⌜ ((a : NodeAsked (now (moves .entry)) (now (index .entry)) (now (vectors .entry)) (now (marks .entry)) kind n q)
         → NodeLeaves a (now (vectors .exit)) (now (marks .exit)) r) ⌝ }
 {
     match kind {
@@ -26,6 +27,16 @@ pub fn report(
             comparison,
             threshold,
             path,
-        } => chance::chance(path, comparison, threshold, moves, vectors, marks, n, q),
+        } => chance::chance(
+            path,
+            comparison,
+            threshold,
+            moves,
+            index,
+            vectors,
+            marks,
+            n,
+            q,
+        ),
     }
 }

@@ -8,16 +8,17 @@ use mathlib.Core.Logic.{_⊎_}
 use mathlib.Core.Option.{none, some}
 use Prim.Native.Nat.{ℕ, _+_, _*_, _≤_, _<_}
 use lib.ListN.{take, drop}
-use Rattle.csl.specs.Limits.{widthFactor}
+use Rattle.csl.specs.Limits.{billion, widthFactor}
 use Rattle.csl.specs.Moves.{ratesOut}
 use Rattle.csl.specs.Formula.{Formula, chance, Path, until, nextMove, PathOf, Comparison}
 use Rattle.csl.specs.Fraction.{Below, billionths}
 use Rattle.csl.specs.Chain.{Chain, exitRate, topRate, depth}
 use Rattle.csl.specs.Limit.{Each}
-use Rattle.csl.specs.Verdicts.{Verdict, Reading, asNo, Sides}
+use Rattle.csl.specs.Verdicts.{Verdict, Reading, Decided, asNo, least, Sides}
+use Rattle.csl.specs.Graph.{UntilPossible, UntilCertain, Enters, EntersOnly, ByPossible, ByCertain}
 use Rattle.csl.specs.Until.{untilQuotient}
 use Rattle.csl.specs.Next.{nextExitRate, nextFraction, nextLower, nextUpper}
-use Rattle.csl.specs.Path.{meaning, valueAt, AllDecided, DecidedIn, Reads}
+use Rattle.csl.specs.Path.{meaning, valueAt, SidesAt, AllDecided, DecidedIn, Reads}
 use Rattle.csl.specs.Backing.{Backed, ChanceKeeps, operandsOf, NothingUndecided, SidesThroughout}
 use Rattle.csl.specs.Truth.{Obeys, Throughout, ThroughoutIn}
 use Rattle.csl.specs.Order.{isAbove, InOrder}
@@ -67,18 +68,46 @@ module _ (j : Job) (lent : Buffers ℕ) (h : refusal j lent ≡ none) (s : ℕ) 
   pub next-exit-rates-by-lines : nextExitRate (jobChain j) s ≡ ratesOut (jobMoves j) s
   next-exit-rates-by-lines = proved.next-exit-by-lines j lent h s
 
--- "yes when the interval lies wholly on the threshold's true side, no when wholly on the false side, else undecided": at every `P` of every
--- backing, and for the outermost `P` with the ends of the report
+-- "yes when the interval lies wholly on the threshold's true side, no when wholly on the false side, else undecided"; but "for `U` and `X` with
+-- thresholds 0 and 1,000,000,000, where no operand state is undecided, the moves now decide the verdict, never undecided" (csl's `Ruled`): at every
+-- `P` of every backing, and for the outermost `P` with the ends of the report
 pub verdicts-follow : (c : Chain) (f : Formula) (v : ℕ → Verdict) (k : Backed c f v) → SidesThroughout c f v k
 verdicts-follow c f v k = theorems.verdicts-follow-at-every-node c f v k
 
 module _ (c : Chain) (r : Comparison) (p : ℕ) (w : Path) (lower upper : ℕ → ℕ) (v : ℕ → Verdict)
     (k : Reported c (chance r p w) lower upper v) (s : ℕ) (in-range : s < c .states) where
-  pub reported-verdicts-follow : Sides (v s) r p (lower s) (upper s)
-  reported-verdicts-follow = theorems.verdicts-follow-from-the-intervals c r p w lower upper v k s in-range
+  pub reported-verdicts-follow : SidesAt c (theorems.operands c r p w lower upper v k) r p s (lower s) (upper s) (v s)
+  reported-verdicts-follow = theorems.verdicts-follow c r p w lower upper v k s in-range
 
-  pub no-other-verdict-follows : (x : Verdict) → Sides x r p (lower s) (upper s) → v s ≡ x
-  no-other-verdict-follows x h = theorems.intervals-allow-one-verdict c r p w lower upper v k x s in-range h
+  pub no-other-verdict-follows : (x : Verdict) → SidesAt c (theorems.operands c r p w lower upper v k) r p s (lower s) (upper s) x → v s ≡ x
+  no-other-verdict-follows x h = theorems.one-verdict-follows c r p w lower upper v k x s in-range h
+
+  -- where the moves decide, and where they do not
+  pub never-undecided-by-the-moves : DecidedIn c (theorems.operands c r p w lower upper v k) → (p ≡ 0) ⊎ (p ≡ billion) → Decided (v s)
+  never-undecided-by-the-moves d e = theorems.moves-leave-nothing-undecided c r p w lower upper v k d e s in-range
+
+  pub elsewhere-by-the-interval : (DecidedIn c (theorems.operands c r p w lower upper v k) → (p ≡ 0) ⊎ (p ≡ billion) → ⊥)
+      → Sides (v s) r p (lower s) (upper s)
+  elsewhere-by-the-interval n = theorems.verdicts-follow-from-the-intervals c r p w lower upper v k n s in-range
+
+-- and what the moves say, by name: "Until is possible where the second operand holds, or, with time above 0, where states of the first operand,
+-- this one included, lead along moves to a state of the second; it is certain only where the second holds. Next is possible where some move
+-- enters the operand, and certain where moves exist and all do."
+module _ (c : Chain) (r : Comparison) (p t : ℕ) (f g : Formula) (lower upper : ℕ → ℕ) (v : ℕ → Verdict)
+    (k : Reported c (chance r p (until t f g)) lower upper v) (i : AllDecided c (k .first)) (h : AllDecided c (k .second)) (s : ℕ) (in-range : s < c .states) where
+  pub decided-by-what-is-possible : p ≡ 0 → ByPossible r (UntilPossible c t (least (k .first)) (least (k .second)) s) (v s)
+  decided-by-what-is-possible = theorems.moves-decide-an-until c r p t f g lower upper v k i h s in-range .0
+
+  pub decided-by-what-is-certain : p ≡ billion → ByCertain r (UntilCertain (least (k .second)) s) (v s)
+  decided-by-what-is-certain = theorems.moves-decide-an-until c r p t f g lower upper v k i h s in-range .1
+
+module _ (c : Chain) (r : Comparison) (p : ℕ) (f : Formula) (lower upper : ℕ → ℕ) (v : ℕ → Verdict)
+    (k : Reported c (chance r p (nextMove f)) lower upper v) (i : AllDecided c (k .first)) (s : ℕ) (in-range : s < c .states) where
+  pub decided-by-a-move-that-enters : p ≡ 0 → ByPossible r (Enters c (least (k .first)) s) (v s)
+  decided-by-a-move-that-enters = theorems.moves-decide-a-next-move c r p f lower upper v k i s in-range .0
+
+  pub decided-by-all-moves-entering : p ≡ billion → ByCertain r (EntersOnly c (least (k .first)) s) (v s)
+  decided-by-all-moves-entering = theorems.moves-decide-a-next-move c r p f lower upper v k i s in-range .1
 
 -- "A lent order buffer of n 16-bit numbers holds the state numbers in that order after acceptance": every state once, each above the next, and
 -- there is no other way to list them so; beyond is unchanged.

@@ -22,5 +22,6 @@ pub record Tied (r : Limits) : Type 0 where
   pub load : r .load ≡ csl.mostRateHundredths
   pub unit : r .unit ≡ csl.rateHundredths
   pub spare : r .spare ≡ csl.spareSteps
+  pub words : r .words ≡ csl.movePlaces
   pub places : r .places ≡ csl.vectorPlaces
   pub besides : r .besides ≡ csl.vectorSpare

@@ -50,6 +50,9 @@ pub const RATE_HUNDREDTHS: u64 = 1000000 * HOUR;
 // The steps of a depth beyond twice the load.
 pub const SPARE_STEPS: u64 = 40;
 
+// The lent move words: so many for each move line.
+pub const MOVE_PLACES: usize = 2;
+
 // The lent vector words: so many for each state, and so many besides.
 pub const VECTOR_PLACES: usize = 10;
 
@@ -75,6 +78,7 @@ struct Limits {
     load: u64,
     unit: u64,
     spare: u64,
+    words: usize,
     places: usize,
     besides: usize,
 }
@@ -102,6 +106,7 @@ fn all() -> Limits
         load: MOST_RATE_HUNDREDTHS,
         unit: RATE_HUNDREDTHS,
         spare: SPARE_STEPS,
+        words: MOVE_PLACES,
         places: VECTOR_PLACES,
         besides: VECTOR_SPARE,
     }

@@ -17,6 +17,7 @@ use Rattle.verdicts.specs.declared.interval.Interval.{Interval}
 use Rattle.rate_matrix.specs.Words.{at, exitOf, pull, flow}
 use Rattle.rate_matrix.specs.Lines.{flow-most}
 use Rattle.rate_matrix.specs.Sorted.{row-sum, row-most, row-next}
+use Rattle.vectors.specs.Places.{ownAt}
 use Rattle.vectors.specs.Prepared.{Rates}
 use Rattle.next_move.specs.Row.{heldIn, RowAsked, RowIs, Entered}
 use Rattle.next_move.specs.Ends.{downOf, upOf, exitIn, enteringIn, lowerAt, upperAt, StateAsked}
@@ -52,46 +53,48 @@ module _ {mv l operand : List ℕ} {n s begin end : ℕ} (p : StateAsked mv l op
         fits = λ b. omega (arith, row-is b, flow-part b, slow);
       }
 
-  -- the exit rate, as added
-  exit-is : at l (6 * n + s) + at l (8 * n + s) ≡ exitIn mv l n s
-  exit-is = rw (rates .exits s (p .here)) refl
+  -- the rate to the own state, as read
+  module _ (own : ℕ) (o : own ≡ ownAt l n s) where
+    -- the exit rate, as added
+    exit-is : at l (6 * n + s) + own ≡ exitIn mv l n s
+    exit-is = rw (rates .exits s (p .here), o) refl
 
-  pub exit-fits : Fits w64 (at l (6 * n + s) + at l (8 * n + s))
-  exit-fits = omega (arith, exit-is, slow)
+    pub exit-fits : Fits w64 (at l (6 * n + s) + own)
+    exit-fits = omega (arith, exit-is, slow)
 
-  pub exit-most : at l (6 * n + s) + at l (8 * n + s) ≤ mostRate
-  exit-most = omega (arith, exit-is, slow)
+    pub exit-most : at l (6 * n + s) + own ≤ mostRate
+    exit-most = omega (arith, exit-is, slow)
 
-  own-part : (b : Bool) → at l (8 * n + s) * heldIn b operand s ≤ at l (8 * n + s)
-  own-part b = omega (arith, mul-le-mul-left (at l (8 * n + s)) (bit-most (readAs b (verdictAt (at operand s)))))
+    own-part : (b : Bool) → ownAt l n s * heldIn b operand s ≤ own
+    own-part b = omega (arith, o, mul-le-mul-left (ownAt l n s) (bit-most (readAs b (verdictAt (at operand s)))))
 
-  -- what enters, of one reading: the row's share and the own state's
-  module _ (b : Bool) (x y : ℕ) (u : RowIs b mv operand begin end x) (e : y ≡ at l (8 * n + s) * bit (readAs b (verdictAt (at operand s)))) where
-    sum-is : x + y ≡ enteringIn b mv l operand n s
-    sum-is = let f : x ≡ flow mv (length mv) (heldIn b operand) s = omega (arith, row-is b) in rw (e, f) refl
+    -- what enters, of one reading: the row's share and the own state's
+    module _ (b : Bool) (x y : ℕ) (u : RowIs b mv operand begin end x) (e : y ≡ own * bit (readAs b (verdictAt (at operand s)))) where
+      sum-is : x + y ≡ enteringIn b mv l operand n s
+      sum-is = let f : x ≡ flow mv (length mv) (heldIn b operand) s = omega (arith, row-is b) in rw (e, f, o) refl
 
-    sum-most : x + y ≤ at l (6 * n + s) + at l (8 * n + s)
-    sum-most = omega (arith, sum-is, flow-part b, own-part b, exit-is)
+      sum-most : x + y ≤ at l (6 * n + s) + own
+      sum-most = omega (arith, sum-is, flow-part b, own-part b, exit-is)
 
-  module _ (r : Entering) (u : Entered mv operand begin end r) where
-    pub low-fits : (y : ℕ) → y ≡ at l (8 * n + s) * bit (readAs false (verdictAt (at operand s))) → Fits w64 (r .low + y)
-    low-fits y e = omega (arith, sum-most false (r .low) y (u .low) e, exit-most)
+    module _ (r : Entering) (u : Entered mv operand begin end r) where
+      pub low-fits : (y : ℕ) → y ≡ own * bit (readAs false (verdictAt (at operand s))) → Fits w64 (r .low + y)
+      low-fits y e = omega (arith, sum-most false (r .low) y (u .low) e, exit-most)
 
-    pub high-fits : (y : ℕ) → y ≡ at l (8 * n + s) * bit (readAs true (verdictAt (at operand s))) → Fits w64 (r .high + y)
-    high-fits y e = omega (arith, sum-most true (r .high) y (u .high) e, exit-most)
+      pub high-fits : (y : ℕ) → y ≡ own * bit (readAs true (verdictAt (at operand s))) → Fits w64 (r .high + y)
+      high-fits y e = omega (arith, sum-most true (r .high) y (u .high) e, exit-most)
 
-    pub low-most : (y : ℕ) → y ≡ at l (8 * n + s) * bit (readAs false (verdictAt (at operand s)))
-        → r .low + y ≤ at l (6 * n + s) + at l (8 * n + s)
-    low-most y e = sum-most false (r .low) y (u .low) e
+      pub low-most : (y : ℕ) → y ≡ own * bit (readAs false (verdictAt (at operand s)))
+          → r .low + y ≤ at l (6 * n + s) + own
+      low-most y e = sum-most false (r .low) y (u .low) e
 
-    pub high-most : (y : ℕ) → y ≡ at l (8 * n + s) * bit (readAs true (verdictAt (at operand s)))
-        → r .high + y ≤ at l (6 * n + s) + at l (8 * n + s)
-    high-most y e = sum-most true (r .high) y (u .high) e
+      pub high-most : (y : ℕ) → y ≡ own * bit (readAs true (verdictAt (at operand s)))
+          → r .high + y ≤ at l (6 * n + s) + own
+      high-most y e = sum-most true (r .high) y (u .high) e
 
-    pub ends-are : (y z : ℕ) → y ≡ at l (8 * n + s) * bit (readAs false (verdictAt (at operand s)))
-        → z ≡ at l (8 * n + s) * bit (readAs true (verdictAt (at operand s))) → (i : Interval)
-        → i ≡ interval (downOf (r .low + y) (at l (6 * n + s) + at l (8 * n + s))) (upOf (r .high + z) (at l (6 * n + s) + at l (8 * n + s)))
-        → i ≡ interval (lowerAt mv l operand n s) (upperAt mv l operand n s)
-    ends-are y z e f i g = rw (g, sum-is false (r .low) y (u .low) e, sum-is true (r .high) z (u .high) f, exit-is) refl
+      pub ends-are : (y z : ℕ) → y ≡ own * bit (readAs false (verdictAt (at operand s)))
+          → z ≡ own * bit (readAs true (verdictAt (at operand s))) → (i : Interval)
+          → i ≡ interval (downOf (r .low + y) (at l (6 * n + s) + own)) (upOf (r .high + z) (at l (6 * n + s) + own))
+          → i ≡ interval (lowerAt mv l operand n s) (upperAt mv l operand n s)
+      ends-are y z e f i g = rw (g, sum-is false (r .low) y (u .low) e, sum-is true (r .high) z (u .high) f, exit-is) refl
 
 pub ruleset state-laws = (may-row, exit-fits, exit-most, low-fits, high-fits, low-most, high-most, ends-are)

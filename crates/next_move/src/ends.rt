@@ -38,7 +38,7 @@ fn state(
         (upperAt (now (moves .entry)) (now (words .entry)) (now (operand .entry)) n s) ⌝ }
 {
     let others = entering::row(moves, operand, n, begin, end);
-    let own = words[vectors::OWNS * n + s];
+    let own = rate_matrix::own_rate_of(words[vectors::OWNS * n + s]);
     let byte = operand[s];
     interval_of(
         others.low + entering::share(own, byte, false),

@@ -7,7 +7,7 @@ use native.Mathlib.Nat.{le-refl, le-suc-iff}
 use mathlib.Core.Logic.{⊎-elim}
 use Rattle.csl.specs.Chain.{sumTo, greatest}
 use Rattle.numbers.specs.Hint.{le-times}
-pub use Rattle.csl.specs.Laws.Sum.{sum-cong, sum-le, sum-weighted, greatest-cong, greatest-le}
+pub use Rattle.csl.specs.Laws.Sum.{sum-cong, sum-le, sum-none, sum-less, sum-term, sum-weighted, greatest-cong, greatest-le}
 
 -- by the code's names
 pub sum-zero : (f : ℕ → ℕ) → sumTo f 0 ≡ 0
@@ -22,13 +22,6 @@ pub sum-add : (f g : ℕ → ℕ) (n : ℕ) → sumTo (λ k. f k + g k) n ≡ su
 unfolding sumTo
 sum-add f g zero = omega arith
 sum-add f g (suc n) = omega (arith, sum-add f g n)
-
-pub sum-none : (f : ℕ → ℕ) (n : ℕ) → ((k : ℕ) → k < n → f k ≡ 0) → sumTo f n ≡ 0
-unfolding sumTo
-sum-none f zero h = refl
-sum-none f (suc n) h =
-    let r : (k : ℕ) → k < n → f k ≡ 0 = λ k l. h k (omega arith) in
-    omega (arith, sum-none f n r, h n (omega arith))
 
 -- the greatest is at most what each is at most
 pub greatest-most : (f : ℕ → ℕ) (m n : ℕ) → ((k : ℕ) → k < n → f k ≤ m) → greatest f n ≤ m

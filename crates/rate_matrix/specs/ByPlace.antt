@@ -9,7 +9,7 @@ use lib.Dec.{ltb, eqb}
 use borrow.Author.Tests.{ltb-true, eqb-true}
 use Rattle.csl.specs.Moves.{Move, isBefore, isRising, rateIn, ratesOut}
 use Rattle.csl.specs.Chain.{sumTo}
-use Rattle.accepted.specs.Rates.{Within}
+use Rattle.accepted.specs.Rates.{Within, Moving}
 
 -- what a place past the last move shows
 abbrev pub noMove : Move
@@ -44,6 +44,12 @@ unfolding Within
 within-place n [] w j l = absurd (omega arith)
 within-place n (m ∷ ms) w zero l = (w .0, w .1)
 within-place n (m ∷ ms) w (suc j) l = within-place n ms (w .2) j (omega arith)
+
+pub moving-place : (ms : List Move) → Moving ms → (j : ℕ) → j < length ms → 0 < moveAt ms j .rate
+unfolding Moving
+moving-place [] w j l = absurd (omega arith)
+moving-place (m ∷ ms) w zero l = w .0
+moving-place (m ∷ ms) w (suc j) l = moving-place ms (w .1) j (omega arith)
 
 -- rising moves leave states that do not fall
 before-le : (a b : Move) → isBefore a b ≡ true → a .from ≤ b .from

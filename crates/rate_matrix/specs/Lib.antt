@@ -1,5 +1,7 @@
 -- Moves as words, what words say of a chain, and what the words that a sheet's moves are stored in say of its chain.
 pub mod Packed
+pub mod Halves
+pub mod Keys
 pub mod Words
 pub mod Lines
 pub mod Sorted

@@ -7,6 +7,7 @@ use Prim.Native.Nat.{ℕ, _≤_, _<_}
 use native.Mathlib.Omega.{arith}
 use lib.ListN.{length}
 use lib.Dec.{eqb}
+use borrow.Author.Tests.{ne-eqb}
 use Rattle.csl.specs.Limits.{mostStates, mostMoves, mostRate}
 use Rattle.csl.specs.Moves.{Move, isRising, rateIn, ratesOut}
 use Rattle.csl.specs.Sheet.{Sheet}
@@ -14,11 +15,11 @@ use Rattle.csl.specs.Chain.{chainOf, away}
 use Rattle.numbers.specs.Sum.{sum-cong}
 use Rattle.accepted.specs.Rates.{Within}
 use Rattle.accepted.specs.Sheet.{Sound}
-use Rattle.rate_matrix.specs.Packed.{packedMove, to-packed, from-packed, rate-packed}
+use Rattle.rate_matrix.specs.Packed.{packedMove, to-packed, from-packed, rate-packed, to-away, from-away, rate-away}
 use Rattle.rate_matrix.specs.Words.{at, fromOf, toOf, rateOf, rateBetween, exitOf, Lines}
 use Rattle.rate_matrix.specs.Away.{ownOf, AwayWords, own-between, away-between, away-lines}
 use Rattle.rate_matrix.specs.Shown.{Shows}
-use Rattle.rate_matrix.specs.ByPlace.{moveAt, rate-by-place, out-by-place, within-place, rising-places}
+use Rattle.rate_matrix.specs.ByPlace.{moveAt, rate-by-place, out-by-place, within-place, rising-places, moving-place}
 
 -- the first words of mv are the moves ms
 abbrev pub Holds : List ℕ → List Move → Type 0
@@ -82,3 +83,13 @@ module _ (mv : List ℕ) (sheet : Sheet) (k : Sound sheet) (holds : Holds mv (sh
         targets = away-lines w sheet-lines .targets;
         rates = λ s g h l. rw (rates-stored mv (sheet .moves) _ (k .few-states) (k .within) holds s g, ← all) (sym (away-between w s g));
       }
+
+  -- and each word that goes to another state has a rate above 0
+  pub moving-stored : {mv' : List ℕ} → AwayWords mv mv' → (j : ℕ) → j < length mv' → (fromOf mv' j ≡ toOf mv' j → ⊥) → 0 < rateOf mv' j
+  moving-stored w j l d =
+      let h : j < length mv = omega (arith, w .same) in
+      let other : eqb (fromOf mv j) (toOf mv j) ≡ false
+      = ne-eqb (fromOf mv j) (toOf mv j) (λ e. d (rw (w .word j h, from-away (at mv j), to-away (at mv j)) e)) in
+      let i : j < length (sheet .moves) = omega (arith, all) in
+      rw (w .word j h, rate-away (at mv j), other, rate-is mv (sheet .moves) _ (k .few-states) (k .within) holds j i)
+      (moving-place (sheet .moves) (k .moving) j i)

@@ -20,12 +20,12 @@ in-turn false false false false false false true = refl
 in-turn false false false false false false false = refl
 
 pub short-listed : (l : Buffers ℕ) (n m k : ℕ) {v : ℕ} → v ≡ vectorLength n
-    → ((ltb (l .lower) n || ltb (l .upper) n || ltb (l .verdicts) n || ltb (l .order) n) || (ltb (l .moves) m || ltb (l .vectors) v) || ltb (l .marks) (k * n))
+    → ((ltb (l .lower) n || ltb (l .upper) n || ltb (l .verdicts) n || ltb (l .order) n) || (ltb (l .moves) (2 * m) || ltb (l .vectors) v) || ltb (l .marks) (k * n))
     ≡ isShort l (needed n m k)
 unfolding isShort any rooms
 short-listed l n m k e =
     rw e
-    (in-turn (ltb (l .lower) n) (ltb (l .upper) n) (ltb (l .verdicts) n) (ltb (l .order) n) (ltb (l .moves) m) (ltb (l .vectors) (vectorLength n))
+    (in-turn (ltb (l .lower) n) (ltb (l .upper) n) (ltb (l .verdicts) n) (ltb (l .order) n) (ltb (l .moves) (2 * m)) (ltb (l .vectors) (vectorLength n))
     (ltb (l .marks) (k * n)))
 
 pub few-marks : (n k : ℕ) → n ≤ mostStates → k ≤ mostNodes → k * n ≤ mostNodes * mostStates

@@ -1,25 +1,29 @@
 -- The words of a sheet, stored one after the other. Assumes nothing.
 use mathlib.Core.Path.{_≡_, refl, sym, ap, _∙_}
 use mathlib.Core.List.{List, _++_}
-use Prim.Native.Nat.{ℕ, _≤_}
+use Prim.Native.Nat.{ℕ, _+_, _≤_, _<_}
 use native.Mathlib.Omega.{arith}
-use lib.ListN.{length, take, drop}
-use lib.Seq.{getD-take, length-take-le}
+use lib.ListN.{length, take, drop, length-drop}
+use lib.Seq.{getD-take, getD-drop, length-take-le, ext-getD}
 use Rattle.csl.specs.Text.{Text}
 use Rattle.csl.specs.Labels.{statesOf}
 use Rattle.csl.specs.Moves.{movesOf}
 use Rattle.csl.specs.Sheet.{sheetOf}
 use Rattle.csl.specs.Chain.{chainOf}
 use Rattle.accepted.specs.Sheet.{SheetPassed}
-use Rattle.numbers.specs.Filled.{Filled, Table, table, table-at, table-rest}
-use Rattle.numbers.specs.Part.{front-length, front-at, front-beyond, front-taken}
+use Rattle.numbers.specs.Filled.{at, Filled, Table, table-at, table-rest}
+use Rattle.numbers.specs.Part.{front-length, front-at, front-beyond}
 use Rattle.moves.specs.Words.{moveWord}
 use Rattle.labels.specs.Words.{stateWord}
 use Rattle.rate_matrix.specs.Packed.{wordAway}
-use Rattle.rate_matrix.specs.Words.{Lines}
+use Rattle.rate_matrix.specs.Halves.{half, ownRate}
+use Rattle.rate_matrix.specs.Words.{fromOf, toOf, rateOf, Lines}
+use Rattle.rate_matrix.specs.Away.{own-slower}
 use Rattle.rate_matrix.specs.Shown.{Shows, top-shown}
-use Rattle.rate_matrix.specs.Stored.{Holds, sheet-lines, owns-stored, shows-stored}
-use Rattle.vectors.specs.Places.{marksFrom}
+use Rattle.rate_matrix.specs.Stored.{Holds, sheet-lines, owns-stored, shows-stored, moving-stored}
+use Rattle.incoming_moves.specs.Indexed.{IndexAsked, Indexed}
+use Rattle.incoming_moves.specs.Shown.{IndexShows, may-index, own-kept, else-kept, index-shows, index-kept}
+use Rattle.vectors.specs.Places.{ownsFrom, marksFrom, vectorLength}
 use Rattle.vectors.specs.Prepared.{PrepareAsked, Laid, prepared-kept}
 use Rattle.refusals.specs.declared.sheet_tests.Dimensions.{Dimensions}
 use Rattle.sheet_words.specs.Stored.{MarksAsked, StoreAsked, Stored}
@@ -44,26 +48,83 @@ module _ {m₀ labels : Text} (p : SheetPassed m₀ labels) {words₀ lines : Li
 
   -- prepared: `part` are the words without their rates to the own state
   module _ {part vectors₀ vectors₁ : List ℕ} (l : Laid first part (statesOf labels) vectors₀ vectors₁) where
+    abbrev laid : List ℕ
+    laid = part ++ drop (length (movesOf m₀)) lines
+
+    part-many : length part ≡ length (movesOf m₀)
+    part-many = l .away .same ∙ many
+
     shows : Shows (chainOf (sheetOf m₀ labels)) part (length part) (statesOf labels)
     shows = shows-stored first (sheetOf m₀ labels) (p .sound) holds many (l .away)
 
-    all-stored : {vectors : List ℕ} → Filled (stateWord labels) (marksFrom (statesOf labels)) (statesOf labels) vectors₁ vectors
-        → Stored m₀ labels words₀ (part ++ drop (length (movesOf m₀)) lines) vectors₀ vectors
-    all-stored f =
-        let m = length (movesOf m₀) in
-        let is-part : take m (part ++ drop m lines) ≡ part = front-taken lines part m first-within (l .away .same) in
-        record {
-          lines = table (front-length lines part m first-within (l .away .same) ∙ t .same)
-              (λ k b. front-at lines part m first-within (l .away .same) k b ∙ l .away .word k (omega (arith, many)) ∙ ap wordAway (holds k b))
-              (λ k b. front-beyond lines part m first-within (l .away .same) k b ∙ table-rest t k b);
-          taken = ap length is-part ∙ l .away .same ∙ many;
-          prepared = rw (is-part, top-shown shows) (prepared-kept (l .prepared) (f .same) (λ k a b. f .before k b));
-          owns = λ s b. f .before _ (omega arith) ∙ l .owns s b ∙ owns-stored first (sheetOf m₀ labels) (p .sound) holds many s;
-          ends = λ k b. f .before k (omega arith) ∙ l .ends k b;
-          marks = f .filled;
-          same = f .same ∙ l .same;
-          beyond = λ k b. f .after k (omega arith) ∙ l .beyond k (omega arith);
-        }
+    laid-at : (j : ℕ) → j < length (movesOf m₀) → at part j ≡ at laid j
+    laid-at j b = sym (front-at lines part (length (movesOf m₀)) first-within (l .away .same) j b)
+
+    laid-same : length laid ≡ length words₀
+    laid-same = front-length lines part (length (movesOf m₀)) first-within (l .away .same) ∙ t .same
+
+    -- the rates to the own state are below the half that the ends of the index's rows stand above
+    own-small : (s : ℕ) → s < statesOf labels → at vectors₁ (ownsFrom (statesOf labels) + s) < half
+    own-small s b = omega (arith, l .owns s b, own-slower first (length first) s, first-lines .limit s b)
+
+    pub index-asked : length (movesOf m₀) + length (movesOf m₀) ≤ length words₀ → vectorLength (statesOf labels) ≤ length vectors₀
+        → IndexAsked laid (length (movesOf m₀)) vectors₁ (ownsFrom (statesOf labels)) (statesOf labels)
+    index-asked wide long =
+        may-index part laid vectors₁ (rw part-many at (l .prepared .rates .lines)) laid-at (omega (arith, laid-same))
+        (omega (arith, l .same)) own-small
+
+    moving : (j : ℕ) → j < length (movesOf m₀) → (fromOf laid j ≡ toOf laid j → ⊥) → 0 < rateOf laid j
+    moving j b = rw (← laid-at j b) (moving-stored first (sheetOf m₀ labels) (p .sound) holds many (l .away) j (omega (arith, part-many)))
+
+    -- indexed, and then marked
+    module _ (wide : length (movesOf m₀) + length (movesOf m₀) ≤ length words₀) (long : vectorLength (statesOf labels) ≤ length vectors₀)
+        {words vectors₂ : List ℕ} (x : Indexed laid words (length (movesOf m₀)) (ownsFrom (statesOf labels)) (statesOf labels) vectors₁ vectors₂) where
+      asked : IndexAsked laid (length (movesOf m₀)) vectors₁ (ownsFrom (statesOf labels)) (statesOf labels)
+      asked = index-asked wide long
+
+      words-same : length words ≡ length words₀
+      words-same = x .placed .same ∙ laid-same
+
+      -- the first words are still those that were laid
+      is-part : take (length (movesOf m₀)) words ≡ part
+      is-part =
+          ext-getD 0 _ part (length-take-le (length (movesOf m₀)) words (omega (arith, words-same)) ∙ sym part-many)
+          (λ k b.
+          let i : k < length (movesOf m₀) = omega (arith, length-take-le (length (movesOf m₀)) words (omega (arith, words-same))) in
+          getD-take (length (movesOf m₀)) words k 0 i ∙ x .placed .moves k i ∙ sym (laid-at k i))
+
+      abbrev behind : List ℕ
+      behind = take (length (movesOf m₀)) (drop (length (movesOf m₀)) words)
+
+      behind-many : length behind ≡ length (movesOf m₀)
+      behind-many =
+          length-take-le (length (movesOf m₀)) (drop (length (movesOf m₀)) words)
+          (omega (arith, words-same, length-drop (length (movesOf m₀)) words))
+
+      shown : IndexShows (chainOf (sheetOf m₀ labels)) behind vectors₂ (ownsFrom (statesOf labels)) (statesOf labels)
+      shown =
+          index-shows behind asked x (rw part-many at shows) laid-at moving behind-many
+          (λ k b. getD-take (length (movesOf m₀)) (drop (length (movesOf m₀)) words) k 0 b ∙ getD-drop (length (movesOf m₀)) words k 0)
+
+      all-stored : {vectors : List ℕ} → Filled (stateWord labels) (marksFrom (statesOf labels)) (statesOf labels) vectors₂ vectors
+          → Stored m₀ labels words₀ words vectors₀ vectors
+      all-stored {vectors} f =
+          let m = length (movesOf m₀) in
+          record {
+            lines = λ j b. x .placed .moves j b ∙ sym (laid-at j b) ∙ l .away .word j (omega (arith, many)) ∙ ap wordAway (holds j b);
+            index = index-kept shown (λ s b. f .before _ (omega arith));
+            words-same = words-same;
+            words-beyond = λ k b. x .placed .after k b ∙ front-beyond lines part m first-within (l .away .same) k (omega arith) ∙ table-rest t k (omega arith);
+            taken = ap length is-part ∙ part-many;
+            prepared = rw (is-part, top-shown shows)
+                (prepared-kept (l .prepared) (f .same ∙ x .ends .same)
+                (λ k a b o. f .before k b ∙ else-kept asked x k (λ c d. o c (omega arith))));
+            owns = λ s b. ap ownRate (f .before _ (omega arith)) ∙ own-kept asked x s b ∙ l .owns s b ∙ owns-stored first (sheetOf m₀ labels) (p .sound) holds many s;
+            ends = λ k b. f .before k (omega arith) ∙ else-kept asked x k (λ c d. omega arith) ∙ l .ends k b;
+            marks = f .filled;
+            same = f .same ∙ x .ends .same ∙ l .same;
+            beyond = λ k b. f .after k (omega arith) ∙ else-kept asked x k (λ c d. omega arith) ∙ l .beyond k (omega arith);
+          }
 
 module _ {m₀ labels : Text} {d : Dimensions} {words₀ vectors₀ : List ℕ} (p : StoreAsked m₀ labels d words₀ vectors₀) where
   states-are : d .states ≡ statesOf labels
@@ -72,29 +133,38 @@ module _ {m₀ labels : Text} {d : Dimensions} {words₀ vectors₀ : List ℕ} 
   moves-are : d .moves ≡ length (movesOf m₀)
   moves-are = ap (λ (x : Dimensions). x .moves) (p .is)
 
+  room : length (movesOf m₀) ≤ length words₀
+  room = omega (arith, p .room)
+
   module _ {lines : List ℕ} (t : Table (moveWord m₀) words₀ lines (length (movesOf m₀))) where
     pub first-words : d .moves ≤ length lines
-    first-words = omega (arith, moves-are, p .room, t .same)
+    first-words = omega (arith, moves-are, room, t .same)
 
     pub words-counted : d .moves ≡ length (take (d .moves) lines)
     words-counted = sym (length-take-le (d .moves) lines first-words)
 
     pub prepare-asked : PrepareAsked (take (d .moves) lines) vectors₀ (d .states)
-    prepare-asked = rw (moves-are, states-are) (record { lines = first-lines (p .passed) (p .room) t; long = p .long })
+    prepare-asked = rw (moves-are, states-are) (record { lines = first-lines (p .passed) room t; long = p .long })
 
     module _ {part vectors₁ : List ℕ} (l : Laid (take (d .moves) lines) part (d .states) vectors₀ vectors₁) where
-      pub marks-asked : MarksAsked labels (d .names) vectors₁ (d .states)
-      marks-asked =
-          rw (p .is)
-          (record {
-            layout = p .passed .labels-layout;
-            count = refl;
-            few = p .passed .sound .few-names;
-            states = refl;
-            small = p .passed .sound .few-states;
-            long = omega (arith, l .same, p .long);
-          })
+      pub may-index-words : IndexAsked (part ++ drop (d .moves) lines) (d .moves) vectors₁ (ownsFrom (d .states)) (d .states)
+      may-index-words = rw (moves-are, states-are) (index-asked (p .passed) room t (rw (moves-are, states-are) at l) (p .room) (p .long))
 
-      pub stored : {vectors : List ℕ} → Filled (stateWord labels) (marksFrom (d .states)) (d .states) vectors₁ vectors
-          → Stored m₀ labels words₀ (part ++ drop (d .moves) lines) vectors₀ vectors
-      stored f = rw moves-are (all-stored (p .passed) (p .room) t (rw (moves-are, states-are) at l) (rw states-are at f))
+      module _ {words vectors₂ : List ℕ} (x : Indexed (part ++ drop (d .moves) lines) words (d .moves) (ownsFrom (d .states)) (d .states) vectors₁ vectors₂) where
+        pub marks-asked : MarksAsked labels (d .names) vectors₂ (d .states)
+        marks-asked =
+            rw (p .is)
+            (record {
+              layout = p .passed .labels-layout;
+              count = refl;
+              few = p .passed .sound .few-names;
+              states = refl;
+              small = p .passed .sound .few-states;
+              long = omega (arith, x .ends .same, l .same, p .long);
+            })
+
+        pub stored : {vectors : List ℕ} → Filled (stateWord labels) (marksFrom (d .states)) (d .states) vectors₂ vectors
+            → Stored m₀ labels words₀ words vectors₀ vectors
+        stored f =
+            all-stored (p .passed) room t (rw (moves-are, states-are) at l) (p .room) (p .long) (rw (moves-are, states-are) at x)
+            (rw states-are at f)

@@ -17,7 +17,7 @@ use Rattle.csl.specs.Lent.{column}
 use Rattle.csl.specs.Laws.Grammar.{same-true}
 use Rattle.accepted.specs.Rates.{next-exit-by-lines}
 use Rattle.accepted.specs.Sheet.{SheetPassed}
-use Rattle.numbers.specs.Filled.{at, table-at, column-length, column-at}
+use Rattle.numbers.specs.Filled.{at, column-length, column-at}
 use Rattle.moves.specs.Words.{moveWord}
 use Rattle.labels.specs.Words.{mark-bit}
 use Rattle.rate_matrix.specs.Packed.{wordAway}
@@ -83,7 +83,7 @@ module _ {moves labels : Text} {words₀ words vectors₀ vectors : List ℕ} (p
             same = k .taken ∙ sym many;
             word = λ j l.
                 let h : j < m = omega (arith, many) in
-                getD-take m words j 0 h ∙ table-at (k .lines) j h ∙ ap wordAway (sym (column-at (moveWord moves) m j h));
+                getD-take m words j 0 h ∙ k .lines j h ∙ ap wordAway (sym (column-at (moveWord moves) m j h));
           }
 
   -- the rates to the own state, in their place

@@ -3,7 +3,7 @@ use mathlib.Core.Path.{_≡_}
 use mathlib.Core.Bool.{true}
 use mathlib.Core.List.{List}
 use Prim.Native.Nat.{ℕ, _+_, _≤_, _<_}
-use lib.ListN.{length, take}
+use lib.ListN.{length, take, drop}
 use Rattle.csl.specs.Text.{Text}
 use Rattle.csl.specs.Limits.{mostNames, mostStates}
 use Rattle.csl.specs.Labels.{labelsLayout, namesOf, statesOf}
@@ -11,11 +11,12 @@ use Rattle.csl.specs.Moves.{movesOf, rateIn}
 use Rattle.csl.specs.Sheet.{sheetOf}
 use Rattle.csl.specs.Chain.{chainOf, topRate}
 use Rattle.accepted.specs.Sheet.{SheetPassed}
-use Rattle.numbers.specs.Filled.{at, Table}
+use Rattle.numbers.specs.Filled.{at}
 use Rattle.moves.specs.Words.{moveWord}
 use Rattle.labels.specs.Words.{stateWord}
 use Rattle.rate_matrix.specs.Packed.{wordAway}
-use Rattle.vectors.specs.Places.{valuesFrom, marksFrom, vectorLength, ownAt}
+use Rattle.incoming_moves.specs.Shown.{IndexShows}
+use Rattle.vectors.specs.Places.{valuesFrom, ownsFrom, marksFrom, vectorLength, ownAt}
 use Rattle.vectors.specs.Prepared.{Prepared}
 use Rattle.refusals.specs.Sheet.{dimensionsOf}
 use Rattle.refusals.specs.declared.sheet_tests.Dimensions.{Dimensions}
@@ -33,14 +34,18 @@ pub record MarksAsked (labels : Text) (names : ℕ) (l : List ℕ) (n : ℕ) : T
 pub record StoreAsked (moves labels : Text) (d : Dimensions) (words vectors : List ℕ) : Type 0 where
   pub passed : SheetPassed moves labels
   pub is : d ≡ dimensionsOf moves labels
-  pub room : length (movesOf moves) ≤ length words
+  pub room : length (movesOf moves) + length (movesOf moves) ≤ length words
   pub long : vectorLength (statesOf labels) ≤ length vectors
 
--- The first move words are the sheet's moves, those to the own state without their rates. The vector words are prepared for them at the
--- sheet's uniformisation rate, with the rates to the own state and the marks of the labels in their places, and with 0 in the places of the
--- ends too. All other words are as they were.
+-- The first move words are the sheet's moves, those to the own state without their rates, and behind them is the index of the moves by the state
+-- that they enter. The vector words are prepared for them at the sheet's uniformisation rate, with the rates to the own state and the marks of
+-- the labels in their places, and with 0 in the places of the ends too. All other words are as they were.
 pub record Stored (moves labels : Text) (words₀ words vectors₀ vectors : List ℕ) : Type 0 where
-  pub lines : Table (λ j. wordAway (moveWord moves j)) words₀ words (length (movesOf moves))
+  pub lines : (j : ℕ) → j < length (movesOf moves) → at words j ≡ wordAway (moveWord moves j)
+  pub index : IndexShows (chainOf (sheetOf moves labels)) (take (length (movesOf moves)) (drop (length (movesOf moves)) words)) vectors
+      (ownsFrom (statesOf labels)) (statesOf labels)
+  pub words-same : length words ≡ length words₀
+  pub words-beyond : (k : ℕ) → length (movesOf moves) + length (movesOf moves) ≤ k → at words k ≡ at words₀ k
   pub taken : length (take (length (movesOf moves)) words) ≡ length (movesOf moves)
   pub prepared : Prepared (take (length (movesOf moves)) words) vectors (statesOf labels) (topRate (chainOf (sheetOf moves labels)))
   pub owns : (s : ℕ) → s < statesOf labels → ownAt vectors (statesOf labels) s ≡ rateIn (movesOf moves) s s

@@ -1,5 +1,6 @@
-// A sheet that passed its tests, in the lent words: its moves in the move words, those to the own state without their rates; in the vector
-// words the marks of its labels and what is prepared of its moves, the rates to the own state among it.
+// A sheet that passed its tests, in the lent words: its moves in the move words, those to the own state without their rates, and behind them their
+// index by the state that they enter; in the vector words the marks of its labels and what is prepared of its moves, the rates to the own
+// state and the ends of the index's rows among it.
 use refusals::Dimensions;
 ghost use Rattle.labels.specs.Words.{stateWord};
 ghost use Rattle.numbers.specs.Filled.{Filled};
@@ -25,5 +26,6 @@ pub fn store(moves: &[u8], labels: &[u8], sheet: Dimensions, words: &mut [u64], 
     let m = sheet.moves;
     moves::store(moves, words);
     vectors::prepare(&mut words[..m], vectors, n);
+    incoming_moves::index(words, m, vectors, vectors::OWNS * n, n);
     store_marks(labels, sheet.names, vectors, n);
 }

@@ -23,7 +23,7 @@ use Rattle.accepted.specs.Job.{Passed}
 module _ (j : Job) (p : Passed j) where
   -- lent buffers of these lengths are long enough
   pub none-short : (lent : Buffers ℕ) → 512 ≤ lent .lower → 512 ≤ lent .upper → 512 ≤ lent .verdicts → 512 ≤ lent .order
-      → 4096 ≤ lent .moves → 5632 ≤ lent .vectors → 32768 ≤ lent .marks → shortBuffer j lent ≡ false
+      → 8192 ≤ lent .moves → 5632 ≤ lent .vectors → 32768 ≤ lent .marks → shortBuffer j lent ≡ false
   unfolding shortBuffer isShort rooms any
   none-short lent a b c d e f g =
       let n : jobStates j ≤ 512 = p .sheet .sound .few-states in
@@ -34,7 +34,7 @@ module _ (j : Job) (p : Passed j) where
         le-ltb (lent .upper) (jobStates j) (omega arith),
         le-ltb (lent .verdicts) (jobStates j) (omega arith),
         le-ltb (lent .order) (jobStates j) (omega arith),
-        le-ltb (lent .moves) (length (jobMoves j)) (omega arith),
+        le-ltb (lent .moves) (2 * length (jobMoves j)) (omega arith),
         le-ltb (lent .vectors) (10 * jobStates j + 512) (omega arith),
         le-ltb (lent .marks) (nodes (jobFormula j) * jobStates j) (omega (arith, mul-le-mul-right (jobStates j) k)),
       )

@@ -39,7 +39,7 @@ pub record Roomy (b : Buffers (List ℕ)) : Type 0 where
   pub uppers : 512 ≤ length (b .upper)
   pub bytes : 512 ≤ length (b .verdicts)
   pub places : 512 ≤ length (b .order)
-  pub words : 4096 ≤ length (b .moves)
+  pub words : 8192 ≤ length (b .moves)
   pub vectors : 5632 ≤ length (b .vectors)
   pub marks : 32768 ≤ length (b .marks)
 

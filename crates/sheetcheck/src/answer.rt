@@ -1,5 +1,4 @@
 // The text that is printed for a job.
-use limits::MOST_MOVES;
 use limits::MOST_STATES;
 use report::Rendered;
 use verdicts::Answer;
@@ -11,7 +10,9 @@ ghost use Rattle.verdicts.specs.Paper.{answerOf};
 ghost use Rattle.checker.specs.Job.{job};
 ghost use Rattle.sheetcheck.specs.Prints.{Answered, lengthOf, numberIn};
 
-// The lengths of vector words and mark bytes that are enough for every job.
+// The lengths of move words, vector words and mark bytes that are enough for every job.
+const MOVE_WORDS: usize = limits::MOVE_PLACES * limits::MOST_MOVES;
+
 const VECTOR_WORDS: usize = limits::VECTOR_PLACES * MOST_STATES + limits::VECTOR_SPARE;
 
 const MARK_BYTES: usize = limits::MOST_NODES * MOST_STATES;
@@ -43,7 +44,7 @@ pub fn write_answer(moves: &[u8], labels: &[u8], formula: &[u8], out: &mut [u8])
     let mut upper = [0u32; MOST_STATES];
     let mut verdicts = [0u8; MOST_STATES];
     let mut order = [0u16; MOST_STATES];
-    let mut words = [0u64; MOST_MOVES];
+    let mut words = [0u64; MOVE_WORDS];
     let mut vectors = [0u64; VECTOR_WORDS];
     let mut marks = [0u8; MARK_BYTES];
     let checked = checker::check(

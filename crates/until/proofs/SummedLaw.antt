@@ -71,7 +71,7 @@ module _ {mv l first second : List ℕ} {n q a depth : ℕ} (p : SummedAsked mv 
       may-both =
           record {
             read = record {
-              rates = rates-kept (p .prepared .rates) (u .same) (λ k c d. u .before k d);
+              rates = rates-kept (p .prepared .rates) (u .same) (λ k c d. u .before k (omega arith));
               some = p .some;
               in-first = p .in-first;
               in-second = p .in-second;

@@ -18,7 +18,7 @@ use Rattle.until.specs.Asked.{UntilAsked, Until}
 
 pub until-prepared : {mv first second l₀ l : List ℕ} {n q t d : ℕ} → UntilAsked mv l₀ first second n q t → Until mv first second n q t l₀ l d
     → Prepared mv l n q
-until-prepared p u = prepared-kept (p .prepared) (u .ends .same) (λ k a b. u .ends .after k a)
+until-prepared p u = prepared-kept (p .prepared) (u .ends .same) (λ k a b o. u .ends .after k a)
 
 module _ {c : Chain} {mv first second l₀ l : List ℕ} {n q t d : ℕ} (p : Shows c mv (length mv) n) (e : q ≡ topOf mv (length mv) n)
     (u : Until mv first second n q t l₀ l d) where

@@ -7,6 +7,7 @@ use lib.Dec.{ltb}
 use lib.ListN.{length}
 use Rattle.csl.specs.Lent.{needed}
 pub use Rattle.numbers.specs.Filled.{at}
+use Rattle.rate_matrix.specs.Halves.{ownRate, rowEnd}
 use Rattle.vectors.specs.declared.Places.{Places}
 
 -- the two ends of every state: the lower ones from 0 on, then the upper ones
@@ -28,7 +29,7 @@ sumsFrom n = 4 * n
 abbrev pub staysFrom : ℕ → ℕ
 staysFrom n = 5 * n
 
--- the exit rates, where the rows of move words end, and the rates to the own state
+-- the exit rates, where the rows of move words end, and the rates to the own state with, above them, where the rows of the index end
 abbrev pub exitsFrom : ℕ → ℕ
 exitsFrom n = 6 * n
 
@@ -75,7 +76,11 @@ abbrev pub endAt : List ℕ → (n : ℕ) → ℕ → ℕ
 endAt l n s = at l (endsFrom n + s)
 
 abbrev pub ownAt : List ℕ → (n : ℕ) → ℕ → ℕ
-ownAt l n s = at l (ownsFrom n + s)
+ownAt l n s = ownRate (at l (ownsFrom n + s))
+
+-- in the same word: where the row of the moves that enter the state ends in their index
+abbrev pub indexEndAt : List ℕ → (n : ℕ) → ℕ → ℕ
+indexEndAt l n s = rowEnd (at l (ownsFrom n + s))
 
 abbrev pub weightAt : List ℕ → (n : ℕ) → ℕ → ℕ
 weightAt l n k = at l (weightsFrom n + k)

@@ -1,14 +1,14 @@
 -- What "prepared" means of the lent vector words, and how they come to be so. Assumes nothing.
 use mathlib.Core.Path.{_≡_, _∙_}
 use mathlib.Core.List.{List}
-use Prim.Native.Nat.{ℕ, suc, _≤_, _<_}
+use Prim.Native.Nat.{ℕ, suc, _+_, _≤_, _<_}
 use native.Mathlib.Omega.{arith}
 use lib.ListN.{length}
 use Rattle.csl.specs.Limits.{mostStates, mostRate}
 use Rattle.numbers.specs.Sum.{greatest-le, greatest-most}
 use Rattle.rate_matrix.specs.Words.{at, exitOf, topOf, rowOf, Lines}
 use Rattle.rate_matrix.specs.Away.{ownOf, AwayWords}
-use Rattle.vectors.specs.Places.{valuesFrom, exitsFrom, weightsFrom, marksFrom, vectorLength, exitAt, endAt, ownAt}
+use Rattle.vectors.specs.Places.{valuesFrom, exitsFrom, weightsFrom, marksFrom, vectorLength, ownsFrom, exitAt, endAt}
 
 -- The exit rates and the row ends of the move words mv stand in their places, for n states, and q is the greatest exit rate.
 pub record Rates (mv l : List ℕ) (n q : ℕ) : Type 0 where
@@ -28,9 +28,10 @@ pub record Prepared (mv l : List ℕ) (n q : ℕ) : Type 0 where
   pub rates : Rates mv l n q
   pub clear : Clear l n
 
--- words as they were from the exit rates to the weights keep them; as they were from the values to the marks, they stay prepared
+-- words as they were from the exit rates to the rates to the own state keep them; as they were from the values to the marks, but for these rates,
+-- they stay prepared
 pub rates-kept : {mv l l' : List ℕ} {n q : ℕ} → Rates mv l n q → length l' ≡ length l
-    → ((k : ℕ) → exitsFrom n ≤ k → k < weightsFrom n → at l' k ≡ at l k) → Rates mv l' n q
+    → ((k : ℕ) → exitsFrom n ≤ k → k < ownsFrom n → at l' k ≡ at l k) → Rates mv l' n q
 rates-kept p e h =
     record {
       lines = p .lines;
@@ -41,13 +42,13 @@ rates-kept p e h =
     }
 
 pub prepared-kept : {mv l l' : List ℕ} {n q : ℕ} → Prepared mv l n q → length l' ≡ length l
-    → ((k : ℕ) → valuesFrom n ≤ k → k < marksFrom n → at l' k ≡ at l k) → Prepared mv l' n q
+    → ((k : ℕ) → valuesFrom n ≤ k → k < marksFrom n → (ownsFrom n ≤ k → k < weightsFrom n → ⊥) → at l' k ≡ at l k) → Prepared mv l' n q
 prepared-kept p e h =
     record {
-      rates = rates-kept (p .rates) e (λ k a b. h k (omega arith) (omega arith));
+      rates = rates-kept (p .rates) e (λ k a b. h k (omega arith) (omega arith) (λ c d. omega arith));
       clear = record {
-        columns = λ k a b. h k a (omega arith) ∙ p .clear .columns k a b;
-        weights = λ k a b. h k (omega arith) b ∙ p .clear .weights k a b;
+        columns = λ k a b. h k a (omega arith) (λ c d. omega arith) ∙ p .clear .columns k a b;
+        weights = λ k a b. h k (omega arith) b (λ c d. omega arith) ∙ p .clear .weights k a b;
       };
     }
 
@@ -71,7 +72,7 @@ pub record PrepareAsked (mv l : List ℕ) (n : ℕ) : Type 0 where
 pub record Laid (mv mv' : List ℕ) (n : ℕ) (old new : List ℕ) : Type 0 where
   pub away : AwayWords mv mv'
   pub prepared : Prepared mv' new n (topOf mv' (length mv') n)
-  pub owns : (s : ℕ) → s < n → ownAt new n s ≡ ownOf mv (length mv) s
+  pub owns : (s : ℕ) → s < n → at new (ownsFrom n + s) ≡ ownOf mv (length mv) s
   pub ends : (k : ℕ) → k < valuesFrom n → at new k ≡ 0
   pub same : length new ≡ length old
   pub beyond : (k : ℕ) → marksFrom n ≤ k → at new k ≡ at old k

@@ -1,2 +1,3 @@
 -- Laws that the proofs of the functions lean on.
 mod RowLaw
+mod DecidedLaw

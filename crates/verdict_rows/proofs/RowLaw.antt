@@ -5,7 +5,8 @@ use Prim.Native.Nat.{ℕ, _+_, _≤_, _<_}
 use native.Mathlib.Omega.{arith}
 use lib.ListN.{getD, set}
 use Rattle.csl.specs.Limits.{billion}
-use Rattle.verdict_rows.specs.Byte.{negatedByte, joinedByte}
+use Rattle.csl.specs.Formula.{Comparison}
+use Rattle.verdict_rows.specs.Byte.{negatedByte, joinedByte, toldByte}
 use Rattle.verdict_rows.specs.Row.{EndsIn}
 use Rattle.verdict_rows.specs.Filling.{Filling, filling-more, filling-kept}
 
@@ -27,3 +28,12 @@ module _ {n : ℕ} {words : List ℕ} {s : ℕ} (w : EndsIn n words) (h : s < n)
 
   pub upper-in : getD words (n + s) 0 ≤ billion
   upper-in = w .range (n + s) (omega arith)
+
+-- the row behind the one that is filled is as it was
+pub told-more : (r : Comparison) (p : ℕ) {n : ℕ} {old new : List ℕ} {s x : ℕ} → Filling (λ k. toldByte r p (getD old (n + k) 0)) n old new s → s < n
+    → x ≡ toldByte r p (getD new (n + s) 0) → Filling (λ k. toldByte r p (getD old (n + k) 0)) n old (set new s x) (s + 1)
+told-more r p {n = n} {s = s} v h e = filling-more v h (e ∙ ap (toldByte r p) (filling-kept v (n + s) (omega arith)))
+
+-- a byte by way of another
+pub told-by : (r : Comparison) (p : ℕ) {b c x : ℕ} → b ≡ c → x ≡ toldByte r p b → x ≡ toldByte r p c
+told-by r p e h = h ∙ ap (toldByte r p) e

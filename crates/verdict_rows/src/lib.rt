@@ -3,9 +3,12 @@
 mod byte;
 mod row;
 
+pub use row::all_decided;
 pub use row::clear;
 pub use row::fill_label;
 pub use row::fill_yes;
 pub use row::join;
 pub use row::judge;
 pub use row::negate;
+pub use row::tell;
+pub use row::tell_next;

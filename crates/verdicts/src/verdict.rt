@@ -1,6 +1,7 @@
 // What is known of a node at a state.
 ghost use mathlib.Core.Path.{_≡_};
-ghost use Rattle.csl.specs.Verdicts.{negation, conjunction};
+ghost use Rattle.csl.specs.Verdicts.{marked, negation, conjunction};
+ghost use Rattle.csl.specs.Laws.Decided.{isDecided};
 ghost use Rattle.csl.specs.Lent.{verdictByte};
 ghost use Rattle.verdicts.specs.Paper.{verdictOf};
 ghost use Rattle.verdicts.specs.Byte.{verdictAt, readAs};
@@ -39,6 +40,13 @@ impl Verdict {
         }
     }
 
+    // Yes where a mark holds, else no.
+    pub fn from_mark(mark: bool) -> Verdict
+        ensures { λ r. ⌜ verdictOf r ≡ marked mark ⌝ }
+    {
+        if mark { Verdict::Yes } else { Verdict::No }
+    }
+
     // The byte that stands for the verdict in a lent buffer.
     pub fn byte(self) -> u8
         ensures { λ r. ⌜ r ≡ verdictByte (verdictOf self) ⌝ }
@@ -62,6 +70,13 @@ impl Verdict {
             Verdict::Undecided
         }
     }
+}
+
+// Whether a verdict byte says yes or no.
+pub fn is_decided(byte: u8) -> bool
+    ensures { λ r. ⌜ r ≡ isDecided (verdictAt byte) ⌝ }
+{
+    byte <= 1
 }
 
 // Whether a verdict byte says that an operand holds, undecided read as yes or as no.

@@ -1,13 +1,15 @@
 -- The starred bench values, and those of hours with decimals and of the second listing, hold. Assumes nothing.
 use mathlib.Core.Path.{_≡_, refl, ap, _∙_}
-use mathlib.Core.Bool.{Bool, true, false, cond}
+use mathlib.Core.Bool.{Bool, true, false, cond, false≢true}
 use Prim.Native.Nat.{ℕ, zero, suc, _*_, _<_}
 use native.Mathlib.Omega.{arith}
 use Rattle.csl.specs.Text.{Text, bytes}
 use Rattle.csl.specs.Limits.{billion, hour}
-use Rattle.csl.specs.Formula.{always, label, negated, both, chance, Path, until, Comparison, AtLeast}
+use Rattle.csl.specs.Formula.{always, label, negated, both, chance, Path, until, PathOf, untilOf, nextOf, Comparison, AtLeast}
 use Rattle.csl.specs.Chain.{Chain, topRate}
-use Rattle.csl.specs.Verdicts.{Verdict, No, Yes, marked, negation, conjunction, judged, asNo, asYes, Sides}
+use Rattle.csl.specs.Verdicts.{Verdict, No, Yes, marked, negation, conjunction, judged, asNo, asYes, least, Sides}
+use Rattle.csl.specs.Graph.{Tells, AllDecided}
+use Rattle.csl.specs.Path.{SidesAt}
 use Rattle.csl.specs.Backing.{AtEach, ChanceKeeps, operandsOf}
 use Rattle.csl.specs.Report.{Reported, lowerOf, upperOf, reportText}
 use Rattle.csl.specs.Refusal.{jobChain}
@@ -16,7 +18,9 @@ use Rattle.csl.specs.Laws.Computing.{computing}
 use Rattle.csl.specs.Laws.Listing.{report-same}
 use Rattle.csl.specs.Laws.PointEnds.{still-lower, still-upper}
 use Rattle.csl.specs.Laws.Enclosure.{ordered-ends}
-use Rattle.csl.specs.Laws.Sides.{one-verdict}
+use Rattle.csl.specs.Laws.Readings.{marks-decided}
+use Rattle.csl.specs.Laws.Ruled.{between, tells-one}
+use Rattle.csl.specs.Laws.Follows.{sides-one}
 use Rattle.csl.specs.Laws.Backing.{kept-operands}
 use Rattle.csl.specs.Laws.Throughout.{sides}
 
@@ -39,14 +43,41 @@ as-yes-end true = refl
 as-yes-end false = refl
 
 -- with load 0 the ends of an until over labels are 0 or 1, as the second is marked
-pub still-row : (c : Chain) (r : Comparison) (p t : ℕ) (x y : Text) (lower upper : ℕ → ℕ) (v : ℕ → Verdict) → topRate c * t ≡ 0
-    → Reported c (chance r p (until t (label x) (label y))) lower upper v → (s : ℕ) → s < c .states
-    → (b : Bool) → c .mark y s ≡ b → Row lower upper v s (endOf b) (endOf b) (judged r p (endOf b) (endOf b))
-still-row c r p t x y lower upper v z k s l b e =
-    let d : k .second s ≡ marked b = k .second-backed s l ∙ ap marked e in
-    let low : lower s ≡ endOf b = still-lower c t _ _ s l _ _ z (k .keeps .ends s l) ∙ rw d (as-no-end b) in
-    let high : upper s ≡ endOf b = still-upper c t _ _ s l _ _ z (k .keeps .ends s l) ∙ rw d (as-yes-end b) in
-    record { lower-is = low; upper-is = high; verdict-is = k .keeps .verdict s l ∙ rw (low, high) }
+module _ (c : Chain) (r : Comparison) (p t : ℕ) (x y : Text) (lower upper : ℕ → ℕ) (v : ℕ → Verdict) (z : topRate c * t ≡ 0)
+    (k : Reported c (chance r p (until t (label x) (label y))) lower upper v) (s : ℕ) (l : s < c .states) (b : Bool) (e : c .mark y s ≡ b) where
+  marked-so : k .second s ≡ marked b
+  marked-so = k .second-backed s l ∙ ap marked e
+
+  still-low : lower s ≡ endOf b
+  still-low = still-lower c t _ _ s l _ _ z (k .keeps .ends s l) ∙ rw marked-so (as-no-end b)
+
+  still-high : upper s ≡ endOf b
+  still-high = still-upper c t _ _ s l _ _ z (k .keeps .ends s l) ∙ rw marked-so (as-yes-end b)
+
+  -- judged by them, with a threshold between 0 and 1,000,000,000
+  pub still-row : 0 < p → p < billion → Row lower upper v s (endOf b) (endOf b) (judged r p (endOf b) (endOf b))
+  still-row i j =
+      record {
+        lower-is = still-low;
+        upper-is = still-high;
+        verdict-is = k .keeps .verdict s l .elsewhere (λ d. between p i j) ∙ rw (still-low, still-high);
+      }
+
+  -- decided by the moves: "at least 1,000,000,000" where it is certain
+  certain-row : r ≡ AtLeast → p ≡ billion → Row lower upper v s (endOf b) (endOf b) (marked b)
+  certain-row i j =
+      let decided : AllDecided c (k .first) × AllDecided c (k .second)
+      = (marks-decided c _ (c .mark x) (k .first-backed), marks-decided c _ (c .mark y) (k .second-backed)) in
+      let told : Tells (v s) (least (k .second) s ≡ true) = rw i at (k .keeps .verdict s l .at-1 decided j) in
+      record {
+        lower-is = still-low;
+        upper-is = still-high;
+        verdict-is = tells-one (least (k .second) s ≡ true) (v s) (marked b) told (rw marked-so (tells-mark b));
+      }
+    where
+      tells-mark : (d : Bool) → Tells (marked d) (asNo (marked d) ≡ true)
+      tells-mark true = refl
+      tells-mark false = false≢true
 
 -- `tt`, and `&` of a label and `!` of another
 always-row : (c : Chain) (lower upper : ℕ → ℕ) (v : ℕ → Verdict) → Reported c always lower upper v → (s : ℕ) → s < c .states
@@ -85,15 +116,16 @@ small-prints : Prints (small "P >= 1000000000 U 0 up dead\n")
     "0,0,0,40,no\n1,1000000000,1000000000,40,yes\n" "1,1000000000,1000000000,40,yes\n0,0,0,40,no\n"
 unfolding computing
 small-prints lower upper v k =
-    let row = still-row (jobChain (small "P >= 1000000000 U 0 up dead\n")) AtLeast billion 0 (bytes "up") (bytes "dead") lower upper v refl k in
-    two-rows lower upper v 40 0 0 No billion billion Yes (row 0 (omega arith) false refl) (row 1 (omega arith) true refl)
+    let row = certain-row (jobChain (small "P >= 1000000000 U 0 up dead\n")) AtLeast billion 0 (bytes "up") (bytes "dead") lower upper v refl k in
+    two-rows lower upper v 40 0 0 No billion billion Yes (row 0 (omega arith) false refl refl refl) (row 1 (omega arith) true refl refl refl)
 
 no-moves-prints : Prints (still "P >= 5 U 8760 up dead\n")
     "0,0,0,40,no\n1,1000000000,1000000000,40,yes\n" "1,1000000000,1000000000,40,yes\n0,0,0,40,no\n"
 unfolding computing
 no-moves-prints lower upper v k =
     let row = still-row (jobChain (still "P >= 5 U 8760 up dead\n")) AtLeast 5 (8760 * hour) (bytes "up") (bytes "dead") lower upper v refl k in
-    two-rows lower upper v 40 0 0 No billion billion Yes (row 0 (omega arith) false refl) (row 1 (omega arith) true refl)
+    two-rows lower upper v 40 0 0 No billion billion Yes (row 0 (omega arith) false refl (omega arith) (omega arith))
+    (row 1 (omega arith) true refl (omega arith) (omega arith))
 
 tt-prints : Prints (small "tt\n")
     "0,1000000000,1000000000,0,yes\n1,1000000000,1000000000,0,yes\n" "0,1000000000,1000000000,0,yes\n1,1000000000,1000000000,0,yes\n"
@@ -110,15 +142,21 @@ both-prints lower upper v k =
     two-rows lower upper v 0 billion billion Yes 0 0 No (row 0 (omega arith) true false refl refl Yes refl)
     (row 1 (omega arith) false true refl refl No refl)
 
--- every interval lies on the true side of "at least 0"
+-- "at least 0" is yes by the moves, and every interval lies on its true side
+at-least-0-sides : (c : Chain) (o : PathOf (ℕ → Verdict)) (s lower upper : ℕ) → SidesAt c o AtLeast 0 s lower upper Yes
+unfolding Sides
+at-least-0-sides c (untilOf t a b) s lower upper =
+    record { at-0 = λ d e. refl; at-1 = λ d e. absurd (omega arith); elsewhere = λ n x a b. omega arith }
+at-least-0-sides c (nextOf a) s lower upper =
+    record { at-0 = λ d e. refl; at-1 = λ d e. absurd (omega arith); elsewhere = λ n x a b. omega arith }
+
 at-least-zero : (c : Chain) (w : Path) (lower upper : ℕ → ℕ) (v : ℕ → Verdict) → Reported c (chance AtLeast 0 w) lower upper v
     → AtEach c λ s. v s ≡ Yes
-unfolding Sides
 at-least-zero c w lower upper v k s l =
-    let h : ChanceKeeps c AtLeast 0 lower upper v (operandsOf c w (ChanceKeeps c AtLeast 0 lower upper v) k)
-    = kept-operands c w (ChanceKeeps c AtLeast 0 lower upper v) k in
-    one-verdict 0 (lower s) (upper s) (ordered-ends c _ s (lower s) (upper s) l (h .ends s l)) AtLeast (v s) Yes
-    (sides c AtLeast 0 lower upper v _ h s l) (λ x a b. omega arith)
+    let o : PathOf (ℕ → Verdict) = operandsOf c w (ChanceKeeps c AtLeast 0 lower upper v) k in
+    let h : ChanceKeeps c AtLeast 0 lower upper v o = kept-operands c w (ChanceKeeps c AtLeast 0 lower upper v) k in
+    sides-one c AtLeast 0 s (lower s) (upper s) (v s) o Yes (ordered-ends c o s (lower s) (upper s) l (h .ends s l))
+    (sides c AtLeast 0 lower upper v o h s l) (at-least-0-sides c o s (lower s) (upper s))
 
 pub bench-values : BenchValues
 unfolding computing negatedTimes

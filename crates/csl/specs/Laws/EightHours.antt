@@ -23,6 +23,7 @@ use Rattle.csl.specs.Laws.Quotient.{until-starts}
 use Rattle.csl.specs.Laws.Readings.{marks-decided, low-marks, high-marks}
 use Rattle.csl.specs.Laws.Tail.{Light, light-from, later}
 use Rattle.csl.specs.Laws.Left.{leftOf, left-above}
+use Rattle.csl.specs.Laws.Ruled.{between}
 use Rattle.csl.specs.Laws.Sides.{judged-sides, one-verdict}
 
 abbrev pub sheet : Chain
@@ -140,5 +141,5 @@ eight-hours lower upper v k =
       low = omega arith;
       high = omega arith;
       narrow = narrow;
-      verdict = k .keeps .verdict 0 here ∙ yes-below 10000000 (lower 0) (upper 0) (omega arith) (omega arith);
+      verdict = k .keeps .verdict 0 here .elsewhere (λ d. between 10000000 (omega arith) (omega arith)) ∙ yes-below 10000000 (lower 0) (upper 0) (omega arith) (omega arith);
     }

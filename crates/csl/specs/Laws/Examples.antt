@@ -10,6 +10,7 @@ use Rattle.csl.specs.Fraction.{Below, billionths}
 use Rattle.csl.specs.Chain.{topRate, depth}
 use Rattle.csl.specs.Verdicts.{Verdict, No, Yes, Undecided, marked, judged, least, most, Decided}
 use Rattle.csl.specs.Until.{lowQuotient, highQuotient, untilSlack}
+use Rattle.csl.specs.Graph.{Ruled}
 use Rattle.csl.specs.Ends.{EndsAt}
 use Rattle.csl.specs.Backing.{AtEach, NothingUndecided, NothingUndecidedIn}
 use Rattle.csl.specs.Truth.{Obeys}
@@ -121,9 +122,15 @@ ends-8 v w h k =
     at-two _ (rw dead-no (eight-hours-ends v w h k))
     (rw dead-yes (ends-certain sheet eight v w 1 (omega (arith, two-states)) (k 1 (omega (arith, two-states)) ∙ dead-1)))
 
--- a backing of `P r p U 8 up dead`, for any comparison and threshold
-unfoldable inner : (r : Comparison) (p : ℕ) → Reported sheet (chance r p (until eight up dead)) lower8 upper8 (λ s. judged r p (lower8 s) (upper8 s))
-inner r p =
+-- with a threshold between 0 and 1,000,000,000 the verdicts follow from the ends
+by-ends : {decided possible certain : Type 0} (r : Comparison) (p : ℕ) (v : Verdict) {interval : Type 0} → 0 < p → p < billion → interval
+    → Ruled decided r p possible certain v interval
+by-ends r p v a b h =
+    record { at-0 = λ d e. absurd (omega arith); at-1 = λ d e. absurd (omega arith); elsewhere = λ n. h }
+
+-- a backing of `P r p U 8 up dead`, for any comparison and such a threshold
+unfoldable inner : (r : Comparison) (p : ℕ) → 0 < p → p < billion → Reported sheet (chance r p (until eight up dead)) lower8 upper8 (λ s. judged r p (lower8 s) (upper8 s))
+inner r p a b =
     record {
       first = λ s. marked (isUp s);
       first-backed = λ s l. refl;
@@ -131,7 +138,7 @@ inner r p =
       second-backed = λ s l. refl;
       keeps = record {
         ends = ends-8 (λ s. marked (isUp s)) (λ s. marked (isDead s)) (λ s l. refl) (λ s l. refl);
-        verdict = λ s l. refl;
+        verdict = λ s l. by-ends r p _ a b refl;
       };
     }
 
@@ -142,16 +149,19 @@ inner-is = at-two _ (rw dead-no) (rw dead-yes)
 abbrev nestedFormula : Formula
 nestedFormula = chance AtLeast 1 (until eight up (chance More 10000000 (until eight up dead)))
 
+outer : AtEach sheet λ s. Yes ≡ judged AtLeast 1 (lower8 s) (upper8 s)
+outer = at-two _ (rw dead-no) (rw dead-yes)
+
 unfoldable nestedBacking : Reported sheet nestedFormula lower8 upper8 (λ s. Yes)
 nestedBacking =
     record {
       first = λ s. marked (isUp s);
       first-backed = λ s l. refl;
       second = λ s. judged More 10000000 (lower8 s) (upper8 s);
-      second-backed = record { lower = lower8; upper = upper8; keeps = inner More 10000000 };
+      second-backed = record { lower = lower8; upper = upper8; keeps = inner More 10000000 (omega arith) (omega arith) };
       keeps = record {
         ends = ends-8 (λ s. marked (isUp s)) (λ s. judged More 10000000 (lower8 s) (upper8 s)) (λ s l. refl) inner-is;
-        verdict = at-two _ (rw dead-no) (rw dead-yes);
+        verdict = λ s l. by-ends AtLeast 1 Yes (omega arith) (omega arith) (outer s l);
       };
     }
 
@@ -222,16 +232,19 @@ openUpper s = cond (isUp s) billion 0
 abbrev pub openVerdict : ℕ → Verdict
 openVerdict s = cond (isUp s) Undecided No
 
+open-judged : AtEach sheet λ s. openVerdict s ≡ judged AtLeast 5 0 (openUpper s)
+open-judged = at-two _ (rw up-yes) (rw up-no)
+
 pub undecided : Reported sheet (chance AtLeast 5 (until eight up (chance AtMost 3992010 (until eight up dead)))) (λ s. 0) openUpper openVerdict
 undecided =
     record {
       first = λ s. marked (isUp s);
       first-backed = λ s l. refl;
       second = open8;
-      second-backed = record { lower = lower8; upper = upper8; keeps = inner AtMost 3992010 };
+      second-backed = record { lower = lower8; upper = upper8; keeps = inner AtMost 3992010 (omega arith) (omega arith) };
       keeps = record {
         ends = at-two _ (rw up-yes (open-ends (λ s. marked (isUp s)) (λ s l. refl)))
             (rw up-no (ends-impossible sheet eight (λ s. marked (isUp s)) open8 1 (omega (arith, two-states)) up-1 open-1));
-        verdict = at-two _ (rw up-yes) (rw up-no);
+        verdict = λ s l. by-ends AtLeast 5 (openVerdict s) (omega arith) (omega arith) (open-judged s l);
       };
     }

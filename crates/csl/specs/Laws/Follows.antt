@@ -1,25 +1,80 @@
--- What the rule of the verdict gives, one line for each kind of path: it says of the probability what the verdict says, and it is the rule
--- of sides. Assumes nothing.
-use mathlib.Core.Bool.{Bool}
-use Prim.Native.Nat.{ℕ, _≤_}
+-- What the rule of the verdict gives, one line for each kind of path: it says of the probability what the verdict says, it is the rule of
+-- sides where the interval decides, and it leaves no choice. Assumes nothing.
+use mathlib.Core.Path.{_≡_, sym, _∙_}
+use mathlib.Core.Bool.{Bool, true}
+use mathlib.Core.Logic.{_⊎_}
+use Prim.Native.Nat.{ℕ, _≤_, _<_}
+use native.Mathlib.Omega.{arith}
+use Rattle.csl.specs.Limits.{billion}
 use Rattle.csl.specs.Formula.{Comparison, PathOf, untilOf, nextOf}
 use Rattle.csl.specs.Chain.{Chain}
-use Rattle.csl.specs.Verdicts.{Verdict, judged, Sides}
-use Rattle.csl.specs.Path.{Reads, reads-until, reads-next, valueAt, FollowsAt}
+use Rattle.csl.specs.Limit.{Holds}
+use Rattle.csl.specs.Verdicts.{Verdict, Reading, Decided, judged, least, Sides}
+use Rattle.csl.specs.Graph.{UntilPossible, UntilCertain, Enters, EntersOnly, AllDecided}
+use Rattle.csl.specs.Path.{Reads, reads-until, reads-next, valueAt, FollowsAt, SidesAt, DecidedIn}
+use Rattle.csl.specs.Laws.Next.{next-is, next-le}
 use Rattle.csl.specs.Laws.Enclosure.{Encloses, value-is}
-use Rattle.csl.specs.Laws.Sides.{judged-sides}
-use Rattle.csl.specs.Laws.Judging.{Settles, settles}
+use Rattle.csl.specs.Laws.Sides.{judged-sides, one-verdict}
+use Rattle.csl.specs.Laws.Decided.{Either, decided-or-not, both-or-not, one-reading}
+use Rattle.csl.specs.Laws.Judging.{Says, Settles, settles}
+use Rattle.csl.specs.Laws.Graph.{limit-low, until-some, until-none, until-full, until-part, until-within, next-some, next-none, next-full, next-part}
+use Rattle.csl.specs.Laws.Graph.{SameOn, same-back, possible-same, enters-same, only-same}
+use Rattle.csl.specs.Laws.Ruled.{which, ruled-says, ruled-as, ruled-one, ruled-decided}
+
+-- whether no operand state is undecided
+pub decided-in : (c : Chain) (o : PathOf (ℕ → Verdict)) → Either (DecidedIn c o)
+decided-in c (untilOf t v w) = both-or-not (decided-or-not c v) (decided-or-not c w)
+decided-in c (nextOf v) = decided-or-not c v
 
 module _ (c : Chain) (r : Comparison) (p s lower upper : ℕ) (v : Verdict) where
-  judgement : (x : PathOf (ℕ → Bool)) → Encloses c lower upper x s → Settles (judged r p lower upper) r p (valueAt c x s)
-  judgement x i = settles (valueAt c x s) (value-is c x s) lower upper (i .below) (i .above) r p
+  judgement : (x : PathOf (ℕ → Bool)) → Encloses c lower upper x s → v ≡ judged r p lower upper → Settles v r p (valueAt c x s)
+  judgement x i e = rw e (settles (valueAt c x s) (value-is c x s) lower upper (i .below) (i .above) r p)
 
   -- of the probability, for every reading of the operands that the ends enclose
-  pub follows-settles : (o : PathOf (ℕ → Verdict)) (x : PathOf (ℕ → Bool)) → Reads (c .states) o x → FollowsAt c o r p s lower upper v
+  pub follows-settles : (o : PathOf (ℕ → Verdict)) (x : PathOf (ℕ → Bool)) → Reads (c .states) o x → s < c .states → FollowsAt c o r p s lower upper v
       → Encloses c lower upper x s → Settles v r p (valueAt c x s)
-  follows-settles _ _ (reads-until t a b x y h k) e i = rw e (judgement (untilOf t x y) i)
-  follows-settles _ _ (reads-next a x h) e i = rw e (judgement (nextOf x) i)
+  follows-settles _ _ (reads-until t a b x y h k) l e i =
+      let same : AllDecided c a × AllDecided c b → SameOn c (least a) x × SameOn c (least b) y
+      = λ d. (same-back c x (least a) (one-reading c a x (d .0) h), same-back c y (least b) (one-reading c b y (d .1) k)) in
+      let back : AllDecided c a × AllDecided c b → SameOn c x (least a) × SameOn c y (least b)
+      = λ d. (one-reading c a x (d .0) h, one-reading c b y (d .1) k) in
+      ruled-says (λ p r. Holds r p (valueAt c (untilOf t x y) s)) (AllDecided c a × AllDecided c b)
+      (UntilPossible c t (least a) (least b) s) (UntilCertain (least b) s) (limit-low _) (until-within c x y s l t)
+      (λ d j. until-some c x y s l t (possible-same c (least a) (least b) x y (same d .0) (same d .1) t s l j))
+      (λ d n. until-none c x y s l t (λ j. n (possible-same c x y (least a) (least b) (back d .0) (back d .1) t s l j)))
+      (λ d j. until-full c x y s l t (back d .1 s l ∙ j))
+      (λ d n. until-part c x y s l t (λ j. n (same d .1 s l ∙ j)))
+      r p v (which (decided-in c (untilOf t a b)) p) e (judgement (untilOf t x y) i)
+  follows-settles _ _ (reads-next a x h) l e i =
+      let same : AllDecided c a → SameOn c (least a) x = λ d. same-back c x (least a) (one-reading c a x d h) in
+      let back : AllDecided c a → SameOn c x (least a) = λ d. one-reading c a x d h in
+      ruled-says (λ p r. Holds r p (valueAt c (nextOf x) s)) (AllDecided c a) (Enters c (least a) s) (EntersOnly c (least a) s)
+      (omega arith) (omega (arith, next-le c x s))
+      (λ d j. omega (arith, next-some c x s (enters-same c (least a) x (same d) s j)))
+      (λ d n. omega (arith, next-none c x s (λ j. n (enters-same c x (least a) (back d) s j))))
+      (λ d j. omega (arith, next-full c x s (only-same c (least a) x (same d) s j)))
+      (λ d n. omega (arith, next-part c x s (λ j. n (only-same c x (least a) (back d) s j))))
+      r p v (which (decided-in c (nextOf a)) p) e (judgement (nextOf x) i)
 
-  pub follows-sides : (o : PathOf (ℕ → Verdict)) → FollowsAt c o r p s lower upper v → lower ≤ upper → Sides v r p lower upper
-  follows-sides (untilOf t a b) e l = rw e (judged-sides p lower upper l r)
-  follows-sides (nextOf a) e l = rw e (judged-sides p lower upper l r)
+  follows-judged : lower ≤ upper → v ≡ judged r p lower upper → Sides v r p lower upper
+  follows-judged l e = rw e (judged-sides p lower upper l r)
+
+  pub follows-sides : (o : PathOf (ℕ → Verdict)) → FollowsAt c o r p s lower upper v → lower ≤ upper → SidesAt c o r p s lower upper v
+  follows-sides (untilOf t a b) e l = ruled-as (follows-judged l) e
+  follows-sides (nextOf a) e l = ruled-as (follows-judged l) e
+
+  -- one verdict follows
+  pub sides-one : (o : PathOf (ℕ → Verdict)) (w : Verdict) → lower ≤ upper → SidesAt c o r p s lower upper v → SidesAt c o r p s lower upper w → v ≡ w
+  sides-one (untilOf t a b) w l h k = ruled-one v w (which (decided-in c (untilOf t a b)) p) (one-verdict p lower upper l r v w) h k
+  sides-one (nextOf a) w l h k = ruled-one v w (which (decided-in c (nextOf a)) p) (one-verdict p lower upper l r v w) h k
+
+  -- "never undecided"
+  pub moves-decide : (o : PathOf (ℕ → Verdict)) → DecidedIn c o → (p ≡ 0) ⊎ (p ≡ billion) → FollowsAt c o r p s lower upper v → Decided v
+  moves-decide (untilOf t a b) d h e = ruled-decided v d h e
+  moves-decide (nextOf a) d h e = ruled-decided v d h e
+
+  -- elsewhere the interval rule stands
+  pub interval-stands : (o : PathOf (ℕ → Verdict)) → (DecidedIn c o → (p ≡ 0) ⊎ (p ≡ billion) → ⊥) → SidesAt c o r p s lower upper v
+      → Sides v r p lower upper
+  interval-stands (untilOf t a b) n e = e .elsewhere n
+  interval-stands (nextOf a) n e = e .elsewhere n

@@ -12,7 +12,7 @@ abbrev pub leftOf : (ℕ → Fraction) → ℕ → Fraction
 leftOf v k = frac (v k .bottom - v k .top) (v k .bottom)
 
 -- x and y have one divisor and add to z
-record Shares (x y z : Fraction) : Type 0 where
+pub record Shares (x y z : Fraction) : Type 0 where
   pub bottoms : x .bottom ≡ y .bottom
   pub tops : (x .top + y .top) * z .bottom ≡ z .top * y .bottom
 
@@ -37,7 +37,7 @@ shares-times : (w x y : Fraction) → x .bottom ≡ y .bottom → x .top + y .to
 shares-times w x y h k = record { bottoms = rw h; tops = omega (arith, ap (λ (e : ℕ). e * (w .top * w .bottom)) k) }
 
 module _ (l : Fraction) (v : ℕ → Fraction) (most : (k : ℕ) → v k .top ≤ v k .bottom) where
-  quotients-share : (n : ℕ) → Shares (quotient l (leftOf v) n) (quotient l v n) (frac 1 1)
+  pub quotients-share : (n : ℕ) → Shares (quotient l (leftOf v) n) (quotient l v n) (frac 1 1)
   unfolding quotient
   quotients-share n =
       let r : Shares (sumUp (λ j. times (weight l j) (leftOf v j)) n) (sumUp (λ j. times (weight l j) (v j)) n) (sumUp (weight l) n)

@@ -19,7 +19,7 @@ pub chance-settles : (c : Chain) (r : Comparison) (p : ℕ) (lower upper : ℕ �
     → ChanceKeeps c r p lower upper v o → Reads (c .states) o x → (s : ℕ) → s < c .states → Settles (v s) r p (valueAt c x s)
 chance-settles c r p lower upper v o x k h s l =
     let i : Encloses c (lower s) (upper s) x s = encloses c o x s (lower s) (upper s) l (k .ends s l) h in
-    follows-settles c r p s (lower s) (upper s) (v s) o x h (k .verdict s l) i
+    follows-settles c r p s (lower s) (upper s) (v s) o x h l (k .verdict s l) i
 
 pub chance-agrees : (c : Chain) → ChanceAgrees c
 chance-agrees c r p lower upper v b o x k e h s l =

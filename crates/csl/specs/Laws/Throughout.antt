@@ -5,8 +5,8 @@ use Prim.Native.Nat.{ℕ}
 use Rattle.csl.specs.Formula.{Comparison, Formula, always, label, negated, both, chance, Path, until, nextMove, PathOf, untilOf, nextOf}
 use Rattle.csl.specs.Chain.{Chain}
 use Rattle.csl.specs.Limit.{Value}
-use Rattle.csl.specs.Verdicts.{Verdict, No, Yes, Undecided, Agrees, Sides, asNo}
-use Rattle.csl.specs.Path.{valueAt, Reads, reads-until, reads-next}
+use Rattle.csl.specs.Verdicts.{Verdict, No, Yes, Undecided, Agrees, asNo}
+use Rattle.csl.specs.Path.{valueAt, SidesAt, Reads, reads-until, reads-next}
 use Rattle.csl.specs.Backing.{AtEach, Backed, PathBacked, ChanceKeeps, SidesThroughout, SidesThroughoutIn}
 use Rattle.csl.specs.Truth.{Throughout, ThroughoutIn, Obeys, PathObeys, ChanceObeys}
 use Rattle.csl.specs.Laws.Value.{Fractions}
@@ -39,9 +39,9 @@ mutual
       (throughout c a _ _ (k .first-backed) (o .first-obeys), throughout c e _ _ (k .second-backed) (o .second-obeys))
   throughout-in c (nextMove a) r p lower upper v b k o = throughout c a _ _ (k .first-backed) (o .first-obeys)
 
--- the rule of sides, of one `P` and of every `P`
+-- demand 2's rule, of one `P` and of every `P`
 pub sides : (c : Chain) (r : Comparison) (p : ℕ) (lower upper : ℕ → ℕ) (v : ℕ → Verdict) (o : PathOf (ℕ → Verdict))
-    → ChanceKeeps c r p lower upper v o → AtEach c λ s. Sides (v s) r p (lower s) (upper s)
+    → ChanceKeeps c r p lower upper v o → AtEach c λ s. SidesAt c o r p s (lower s) (upper s) (v s)
 sides c r p lower upper v o k s l =
     follows-sides c r p s (lower s) (upper s) (v s) o (k .verdict s l) (ordered-ends c o s (lower s) (upper s) l (k .ends s l))
 

@@ -15,21 +15,21 @@ use Rattle.formula.proofs.operands_of.Reads as operands-of-reads
 use Rattle.decide.proofs.+decide.{statement}
 use Rattle.decide.proofs.+decide.Tie.{close}
 
-abbrev μ-decide : Measures 3 decide-kinds.ps ℕ
+abbrev μ-decide : Measures 4 decide-kinds.ps ℕ
 μ-decide κs a = a .1 .1 .0
 
-abbrev decide-at : ℕ → In 3 decide-kinds.ps
-decide-at t = and 3 decide-kinds.ps (is 3 decide-kinds.ps μ-decide t) decide.Pre
+abbrev decide-at : ℕ → In 4 decide-kinds.ps
+decide-at t = and 4 decide-kinds.ps (is 4 decide-kinds.ps μ-decide t) decide.Pre
 
-abbrev decide-below : ℕ → In 3 decide-kinds.ps
-decide-below t = and 3 decide-kinds.ps (falls 3 decide-kinds.ps _<_ μ-decide t) decide.Pre
+abbrev decide-below : ℕ → In 4 decide-kinds.ps
+decide-below t = and 4 decide-kinds.ps (falls 4 decide-kinds.ps _<_ μ-decide t) decide.Pre
 
 abbrev calls : (t : ℕ) → decide-lts.Claims
 calls t = (operands-of-reads.Asked, operands-of-reads.Learnt, report-reads.Asked, report-reads.Learnt, decide-below t, decide.Post)
 
 -- From where the operands were read back to the entry; from a call to where they were read; from the call for the second back to the first.
 abbrev entry : (t : ℕ) → decide-lts.After-operands-of (calls t) (decide-at t) decide.Post → decide-lts.Start (calls t) (decide-at t) decide.Post
-entry t c = c .before .before .before .before .before .before
+entry t c = c .before .before .before .before .before .before .before
 
 abbrev one-read : (t : ℕ) → decide-lts.After-decide (calls t) (decide-at t) decide.Post → decide-lts.After-operands-of (calls t) (decide-at t) decide.Post
 one-read t c = c .before .before .before .before .before .before

@@ -1,5 +1,5 @@
 -- `store` meets its contract. Assumes nothing.
-use Rattle.sheet_words.proofs.StoreLaw.{first-words, words-counted, prepare-asked, marks-asked, stored}
+use Rattle.sheet_words.proofs.StoreLaw.{first-words, words-counted, prepare-asked, may-index-words, marks-asked, stored}
 use borrow.Author.Needs.{needs}
 use Rattle.sheet_words.proofs.store.Statement.{statement}
 use Rattle.sheet_words.proofs.store.Tie as tie
@@ -16,8 +16,19 @@ slice-aggregate-prepare c = search (needs, words-counted)
 prepare-requires : tie.Need-prepare-requires
 prepare-requires c κs = search (needs, prepare-asked)
 
+mul-index : tie.Need-mul-index
+mul-index c = search needs
+
+index-requires : tie.Need-index-requires
+index-requires c κs = search (needs, may-index-words)
+
 store-marks-requires : tie.Need-store-marks-requires
-store-marks-requires c κs = search (needs, marks-asked)
+store-marks-requires c κs =
+    let indexed = c .before .before .before .before .before in
+    let prepared = indexed .before .before .before .before .before .before .before in
+    let lines = prepared .before .before .before .before .before in
+    let began = lines .before .before .before .before .before .before in
+    marks-asked (began .pre) (lines .store .ensures) (prepared .prepare .ensures) (indexed .index .ensures)
 
 same-length : tie.Need-same-length
 same-length c = search needs
@@ -36,6 +47,8 @@ store-spec =
     slice-relend-prefix-prepare
     slice-aggregate-prepare
     prepare-requires
+    mul-index
+    index-requires
     store-marks-requires
     same-length
     same-length-2

@@ -7,6 +7,9 @@ use Rattle.checker.proofs.passed.clear_all.Tie as tie
 length-requires : tie.Need-length-requires
 length-requires c κs = search needs
 
+mul-clear-words : tie.Need-mul-clear-words
+mul-clear-words c = search needs
+
 clear-words-requires : tie.Need-clear-words-requires
 clear-words-requires c κs = search needs
 
@@ -14,7 +17,7 @@ clear-words-requires-2 : tie.Need-clear-words-requires-2
 clear-words-requires-2 c κs = search needs
 
 mul-clear : tie.Need-mul-clear
-mul-clear c = search (needs, rows-fit)
+mul-clear c = search needs
 
 clear-requires : tie.Need-clear-requires
 clear-requires c κs = search needs
@@ -36,6 +39,7 @@ clear-all-spec =
     tie.close
     (tie.spec
     length-requires
+    mul-clear-words
     clear-words-requires
     clear-words-requires-2
     mul-clear

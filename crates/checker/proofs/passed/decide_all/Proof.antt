@@ -8,22 +8,34 @@ sub-root : tie.Need-sub-root
 sub-root c = search (needs, some)
 
 mul-rows : tie.Need-mul-rows
-mul-rows c = search (needs, decide-laws)
+mul-rows c = search needs
 
 store-requires : tie.Need-store-requires
 store-requires c κs = search (needs, store-asked)
 
 clear-requires : tie.Need-clear-requires
-clear-requires c κs = search (needs, decide-laws)
-
-slice-reshare-prefix-decide : tie.Need-slice-reshare-prefix-decide
-slice-reshare-prefix-decide c = search (needs, decide-laws)
+clear-requires c κs = search needs
 
 slice-aggregate-decide : tie.Need-slice-aggregate-decide
 slice-aggregate-decide c = search (needs, decide-laws)
 
+add-decide : tie.Need-add-decide
+add-decide c = search needs
+
+mul-decide : tie.Need-mul-decide
+mul-decide c = search needs
+
+sub-decide : tie.Need-sub-decide
+sub-decide c = search needs
+
+part-decide-start : tie.Need-part-decide-start
+part-decide-start c = search needs
+
+part-decide-end : tie.Need-part-decide-end
+part-decide-end c = search needs
+
 slice-relend-prefix-decide : tie.Need-slice-relend-prefix-decide
-slice-relend-prefix-decide c = search (needs, decide-laws)
+slice-relend-prefix-decide c = search needs
 
 slice-aggregate-decide-2 : tie.Need-slice-aggregate-decide-2
 slice-aggregate-decide-2 c = search (needs, decide-laws)
@@ -32,13 +44,13 @@ decide-requires : tie.Need-decide-requires
 decide-requires c κs = search (needs, decide-asked)
 
 same-length : tie.Need-same-length
-same-length c = search (needs, decide-laws)
+same-length c = search needs
 
 same-length-2 : tie.Need-same-length-2
-same-length-2 c = search (needs, decide-laws)
+same-length-2 c = search needs
 
 same-length-3 : tie.Need-same-length-3
-same-length-3 c = search (needs, decide-laws)
+same-length-3 c = search needs
 
 returns : tie.Need-returns
 returns c = search (needs, all-decided)
@@ -51,8 +63,12 @@ decide-all-spec =
     mul-rows
     store-requires
     clear-requires
-    slice-reshare-prefix-decide
     slice-aggregate-decide
+    add-decide
+    mul-decide
+    sub-decide
+    part-decide-start
+    part-decide-end
     slice-relend-prefix-decide
     slice-aggregate-decide-2
     decide-requires

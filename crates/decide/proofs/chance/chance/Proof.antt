@@ -1,6 +1,6 @@
 -- `chance` meets its contract. Assumes nothing.
-use borrow.Author.Needs.{needs}
 use Rattle.decide.proofs.ChanceLaw.{chance-laws}
+use borrow.Author.Needs.{needs}
 use Rattle.decide.proofs.chance.chance.Statement.{statement}
 use Rattle.decide.proofs.chance.chance.Tie as tie
 

@@ -1,6 +1,6 @@
 -- `report` meets its contract. Assumes nothing.
-use borrow.Author.Needs.{needs}
 use Rattle.decide.proofs.NodeLaw.{node-laws}
+use borrow.Author.Needs.{needs}
 use Rattle.decide.proofs.node.report.Statement.{statement}
 use Rattle.decide.proofs.node.report.Tie as tie
 

@@ -1,23 +1,26 @@
 -- `state` meets its contract. Assumes nothing.
-use borrow.Author.Needs.{needs}
 use Rattle.next_move.proofs.StateLaw.{state-laws}
+use borrow.Author.Needs.{needs}
 use Rattle.next_move.proofs.ends.state.Statement.{statement}
 use Rattle.next_move.proofs.ends.state.Tie as tie
 
 row-requires : tie.Need-row-requires
 row-requires c κs = search (needs, state-laws)
 
-mul-own : tie.Need-mul-own
-mul-own c = search needs
+mul-own-rate-of : tie.Need-mul-own-rate-of
+mul-own-rate-of c = search needs
 
-add-own : tie.Need-add-own
-add-own c = search needs
+add-own-rate-of : tie.Need-add-own-rate-of
+add-own-rate-of c = search needs
 
-mul-own-2 : tie.Need-mul-own-2
-mul-own-2 c = search needs
+mul-own-rate-of-2 : tie.Need-mul-own-rate-of-2
+mul-own-rate-of-2 c = search needs
 
-shared-slice-read-own : tie.Need-shared-slice-read-own
-shared-slice-read-own c = search needs
+shared-slice-read-own-rate-of : tie.Need-shared-slice-read-own-rate-of
+shared-slice-read-own-rate-of c = search needs
+
+own-rate-of-requires : tie.Need-own-rate-of-requires
+own-rate-of-requires c κs = search needs
 
 shared-slice-read-byte : tie.Need-shared-slice-read-byte
 shared-slice-read-byte c = search needs
@@ -60,10 +63,11 @@ state-spec =
     tie.close
     (tie.spec
     row-requires
-    mul-own
-    add-own
-    mul-own-2
-    shared-slice-read-own
+    mul-own-rate-of
+    add-own-rate-of
+    mul-own-rate-of-2
+    shared-slice-read-own-rate-of
+    own-rate-of-requires
     shared-slice-read-byte
     share-requires
     add-interval-of

@@ -1,0 +1,6 @@
+-- Laws behind the proofs of `incoming_moves`.
+pub mod EnterLaw
+pub mod CountLaw
+pub mod BeginLaw
+pub mod PlaceLaw
+pub mod IndexLaw

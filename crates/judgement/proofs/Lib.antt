@@ -1,0 +1,2 @@
+-- Laws behind the proofs of `judgement`.
+pub mod JudgeLaw

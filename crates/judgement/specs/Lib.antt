@@ -1,0 +1,2 @@
+-- What judging the row of a `P` asks and leaves.
+pub mod Judged
