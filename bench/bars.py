@@ -6,7 +6,7 @@ from measuring import balls_agree, doubles_agree, width
 from ordering import at_most, out_of_order
 from reckoning.chain import depth
 from restarts import exact
-from searching import for_each, share
+from searching import for_each, share, share_with_index
 
 FEW_MOVES = 3                           # with fewer moves out of a state than this a sheet is sparse
 MOST_OVER_DOUBLES = {"dense": 1.6, "sparse": 2.4}
@@ -17,6 +17,7 @@ MOST_OVER_UNTILS = 1.3
 JUDGED_DEPTH = depth(sheets.HOURS[-1])  # the whole job is judged at this depth, and told of the others
 MOST_OF_JOB = 0.05                      # of a whole job, for the order of its states
 MOST_OF_UNTIL = 0.03                    # of an until, for the search along the moves
+MOST_WITH_INDEX = 0.1                   # and with the index of incoming moves: a goal and no bar
 MOST_APART = 4                          # times that a search for each state and move may take of what it takes on another sheet: a goal and no bar
 MOST_RESIDENT = 4096                    # KB
 MOST_WIDTH = 2                          # billionths
@@ -104,6 +105,9 @@ def of_searches(searches, largest):
         shares = [share(search) for search in some]
         yield Bar(f"the search takes at most {100 * MOST_OF_UNTIL:.0f} % of its until at depth {JUDGED_DEPTH} {told_as}",
                   f"{100 * min(shares):.1f} % to {100 * max(shares):.1f} %", max(shares) <= MOST_OF_UNTIL, judged)
+    shares = [share_with_index(search) for search in searches]
+    yield Bar(f"the index and a search take at most {100 * MOST_WITH_INDEX:.0f} % of the until at depth {JUDGED_DEPTH} on every sheet",
+              f"{100 * min(shares):.1f} % to {100 * max(shares):.1f} %", max(shares) <= MOST_WITH_INDEX, False)
     each = [for_each(search) for search in searches]
     yield Bar(f"the search takes at most {MOST_APART} times as long for each state and move on one sheet as on another",
               f"{min(each):.2f} to {max(each):.2f} ns", max(each) <= MOST_APART * min(each), False)

@@ -1,9 +1,10 @@
 """Takes the times that tell what the search along the moves costs an until that asks for what is possible.
 
 The library searches within a job, so that the search is not timed by itself. The same until is put to it with the threshold 0, where the moves decide
-the verdicts, and with the threshold 1, where the ends do; the two formulas are equally long, and so is all else. What the first takes longer is the
-search's. It is little, so that the jobs are run by turns in one process, and of the differences of all rounds the middle one is taken: once at the
-greatest depth, as a share of that until, and once more on jobs with several untils over the shortest time, where there is less beside it.
+the verdicts, and with the threshold 1, where the ends do; the two formulas are equally long, and so is all else. What the first takes longer is that
+of the index of incoming moves, which a job lays out once if it may need it, and of one search. A search by itself is seen in jobs with several untils
+over the shortest time, where there is less beside it: what one more takes by the moves, with the index at hand. All this is little, so that the jobs
+are run by turns in one process, and of the differences of all rounds the middle one is taken.
 
 Besides the sheets of the bench, in which no state is far from a dead one, there are rows, in which the last state alone is dead: from the first state
 it is as many moves away as there are states, and a search that looked at all moves again for each of these would take hundreds of times as long.
@@ -27,24 +28,24 @@ SHORTEST = "0.01"                       # hours
 MILLISECONDS = 200                      # of turns in each round
 
 # What a round took of a sheet: times in nanoseconds of a job that reads alone, of the until at the greatest depth by the moves and by the ends, and
-# of the several short ones.
-Turn = namedtuple("Turn", "reading long_by_moves long_by_ends short_by_moves short_by_ends")
+# of the several short ones, all by the moves and one of them.
+Turn = namedtuple("Turn", "reading long_by_moves long_by_ends short_by_moves short_but_one_by_ends")
 
-# For a sheet: times in nanoseconds of the until at the greatest depth by its ends, and of the search, there and on the short jobs; the moves that the
+# For a sheet: times in nanoseconds of the until at the greatest depth by its ends, of a search, and of the index and a search; the moves that the
 # furthest state is away from a dead one; and whether the verdicts are right.
-Search = namedtuple("Search", "sheet until search again furthest right")
+Search = namedtuple("Search", "sheet until search with_index furthest right")
 
 
-def asked(threshold):
-    """The until at the greatest depth, and several over the shortest time, with a threshold."""
-    several = " ".join(["&"] * (SEVERAL - 1) + [sheets.more_than(threshold, SHORTEST)] * SEVERAL)
-    return sheets.more_than(threshold, sheets.HOURS[-1]), several
+def several(others):
+    """Several untils over the shortest time: one with the threshold 0, the others with this one."""
+    thresholds = [BY_MOVES] + [others] * (SEVERAL - 1)
+    return " ".join(["&"] * (SEVERAL - 1) + [sheets.more_than(threshold, SHORTEST) for threshold in thresholds])
 
 
 def formulas():
     """The formulas of a turn."""
-    (long_by_moves, short_by_moves), (long_by_ends, short_by_ends) = map(asked, (BY_MOVES, BY_ENDS))
-    return Turn(READING, long_by_moves, long_by_ends, short_by_moves, short_by_ends)
+    long_by_moves, long_by_ends = (sheets.more_than(threshold, sheets.HOURS[-1]) for threshold in (BY_MOVES, BY_ENDS))
+    return Turn(READING, long_by_moves, long_by_ends, several(BY_MOVES), several(BY_ENDS))
 
 
 def take_turns(sheet):
@@ -64,9 +65,9 @@ def measure_searches(found, rounds):
 def search_of(sheet, turns, verdicts):
     """What was taken on one sheet."""
     sheet_texts = read_texts(sheet.folder)[:2]
-    return Search(sheet, median(turn.long_by_ends - turn.reading for turn in turns), median(turn.long_by_moves - turn.long_by_ends for turn in turns),
-                  median(turn.short_by_moves - turn.short_by_ends for turn in turns) / SEVERAL,
-                  furthest(refusal(*sheet_texts, b"tt\n").chain), right(sheet_texts, verdicts[-1]))
+    return Search(sheet, median(turn.long_by_ends - turn.reading for turn in turns),
+                  median(turn.short_by_moves - turn.short_but_one_by_ends for turn in turns) / (SEVERAL - 1),
+                  median(turn.long_by_moves - turn.long_by_ends for turn in turns), furthest(refusal(*sheet_texts, b"tt\n").chain), right(sheet_texts, verdicts[-1]))
 
 
 def furthest(chain):
@@ -93,6 +94,11 @@ def share(search):
     return search.search / search.until
 
 
+def share_with_index(search):
+    """The index and a search as a share of the until."""
+    return search.with_index / search.until
+
+
 def for_each(search):
-    """The search on the short jobs, in nanoseconds for each state and move."""
-    return search.again / (search.sheet.states + search.sheet.moves)
+    """The search, in nanoseconds for each state and move."""
+    return search.search / (search.sheet.states + search.sheet.moves)

@@ -2,13 +2,13 @@
 from growth import slope, steps_made, two_terms
 from measuring import balls_agree, doubles_agree, width
 from ordering import at_most, out_of_order
-from searching import for_each, share as share_of_until
+from searching import for_each, share as share_of_until, share_with_index
 
 HEADS = ["states", "moves", "depth", "doubles", "Arb", "Arb dot", "engine", "again", "reading", "job",
          "eng/dbl", "Arb/eng", "dot/eng", "job/until", "3 untils", "widest", "dbl in", "Arb in"]
 RESTART_HEADS = ["formula", "states", "moves", "reading", "job", "job - reading", "ns for each move"]
 ORDER_HEADS = ["states", "falling", "rising", "drawn", "equal", "out of order", "after tests"]
-SEARCH_HEADS = ["states", "moves", "furthest", "until", "search", "of until", "again", "ns for each"]
+SEARCH_HEADS = ["states", "moves", "furthest", "until", "search", "of until", "ns for each", "with index", "of until"]
 GROWTH_HEADS = ["states", "moves", "depth", "doubles", "Arb", "engine", "whole job"]
 QUIET = 0.1                             # two ways to one time part by at most this share on a quiet machine
 WORDS = {True: "yes", False: "NO", None: "-"}
@@ -119,7 +119,7 @@ def share(time, row):
 def search_line(search):
     """A row of the table of searches."""
     return [*map(str, (search.sheet.states, search.sheet.moves, search.furthest)), milliseconds(search.until), milliseconds(search.search),
-            f"{100 * share_of_until(search):.1f} %", milliseconds(search.again), f"{for_each(search):.2f}"]
+            f"{100 * share_of_until(search):.1f} %", f"{for_each(search):.2f}", milliseconds(search.with_index), f"{100 * share_with_index(search):.1f} %"]
 
 
 def search_table(searches):
@@ -129,10 +129,10 @@ def search_table(searches):
 
 def search_fit(searches):
     """How the time of the search grows; it cannot be told where a search was not seen at all."""
-    if any(search.again <= 0 for search in searches):
+    if any(search.search <= 0 for search in searches):
         return "search: too short to be seen on some sheet, so that its growth is not told"
-    power = slope([(search.sheet.states + search.sheet.moves, search.again) for search in searches])
-    a, b, miss = two_terms([(search.sheet.states, search.sheet.moves, search.again) for search in searches])
+    power = slope([(search.sheet.states + search.sheet.moves, search.search) for search in searches])
+    a, b, miss = two_terms([(search.sheet.states, search.sheet.moves, search.search) for search in searches])
     return (f"search: grows as (states + moves) to the power {power:.3f}; {a:.2f} ns x states + {b:.2f} ns x moves, "
             f"no row off by more than {100 * miss:.0f} %")
 

@@ -1,6 +1,6 @@
 -- The report of a job that passed all tests, from step to step. Assumes nothing.
 use mathlib.Core.Path.{_≡_, refl, sym, ap, _∙_}
-use mathlib.Core.Bool.{Bool, true, false}
+use mathlib.Core.Bool.{Bool, true, false, not, true≢false}
 use mathlib.Core.List.{List, _++_}
 use Prim.Native.Nat.{ℕ, _+_, _-_, _*_, _≤_, _<_}
 use native.Mathlib.Omega.{arith}
@@ -23,7 +23,10 @@ use Rattle.numbers.specs.Part.{front-length, front-at, front-beyond}
 use Rattle.bounds.specs.Found.{reportLower, reportUpper}
 use Rattle.formula.specs.Each.{nodes-some}
 use Rattle.formula.specs.Stored.{levels-nodes}
+use Rattle.formula.specs.Nodes.{kindAt}
+use Rattle.formula.specs.Pass.{passed, placePassed, allPassed}
 use Rattle.formula.specs.declared.nodes.Nodes.{Nodes}
+use Rattle.formula.specs.declared.pass.Test.the-variants.{NoSearch}
 use Rattle.vectors.specs.Places.{vectorLength}
 use Rattle.verdict_rows.specs.Row.{EndsIn}
 use Rattle.results.specs.Column.{column-length, column-as, written-length, written-at}
@@ -32,6 +35,7 @@ use Rattle.refusals.specs.declared.sheet_tests.Dimensions.{Dimensions}
 use Rattle.sheet_words.specs.Stored.{StoreAsked, Stored}
 use Rattle.sheet_words.specs.Shown.{sheet-shown, sheet-owns, marks-shown}
 use Rattle.decide.specs.Asked.{DecideAsked, Decides, formulaOf}
+use Rattle.decide.specs.Fits.{each-below}
 use Rattle.checker.specs.Job.{buffers}
 use Rattle.checker.specs.Report.{chainIn, formulaIn, Ready, DecideAll, Decided, ClearAsked, Cleared, ReportAsked, ReportLeft}
 
@@ -93,7 +97,20 @@ module _ {m₀ labels : Text} {d : Dimensions} {x : Nodes} {words₀ vectors₀ 
   pub clear-asked : x .count * d .states ≤ length marks₀
   clear-asked = r .in-marks
 
-  module _ {words vectors marks : List ℕ} (s : Stored m₀ labels words₀ words vectors₀ vectors)
+  pub few-nodes : x .count ≤ mostNodes
+  few-nodes = r .ready .few-nodes
+
+  -- where a node may need a search, not all do without
+  pub searched : {passes wanted : Bool} → passes ≡ allPassed NoSearch x → wanted ≡ not passes → (k : ℕ) → k < x .count
+      → passed NoSearch (kindAt (x .nodes) k) ≡ false → wanted ≡ true
+  searched {passes} {wanted} e w k b h = go passes refl
+    where
+      go : (p : Bool) → passes ≡ p → wanted ≡ true
+      go true i = absurd (true≢false (sym (each-below (placePassed NoSearch (x .nodes)) (x .count) (sym e ∙ i) k b) ∙ h))
+      go false i = w ∙ ap not i
+
+  module _ {passes wanted : Bool} (all : passes ≡ allPassed NoSearch x) (want : wanted ≡ not passes) {words vectors marks : List ℕ}
+      (s : Stored wanted m₀ labels words₀ words vectors₀ vectors)
       (z : Table (λ _. 0) marks₀ marks (x .count * d .states)) where
     pub words-long : d .moves ≤ length words
     words-long = omega (arith, r .in-words, s .words-same)
@@ -131,7 +148,7 @@ module _ {m₀ labels : Text} {d : Dimensions} {x : Nodes} {words₀ vectors₀ 
           prepared = rw (moves-are (r .ready), states-are (r .ready), q-is (r .ready)) (s .prepared);
           owns = rw (states-are (r .ready)) (sheet-owns (r .ready .passed) s);
           few-words = omega (arith, index-counted, few-moves);
-          index = rw (behind-is (d .moves) words, moves-are (r .ready), states-are (r .ready)) (s .index);
+          index = λ k i h. rw (behind-is (d .moves) words, moves-are (r .ready), states-are (r .ready)) (s .index (searched all want k (omega (arith, some)) h));
           marked = rw (states-are (r .ready)) (marks-shown (r .ready .passed) s);
           inside = omega (arith, some, r .ready .few-nodes);
           fits = rw (q-is (r .ready)) (λ k h. r .ready .fits k (omega (arith, some)));
@@ -173,7 +190,7 @@ module _ {m₀ labels : Text} {d : Dimensions} {x : Nodes} {words₀ vectors₀ 
             marks-beyond = rw (← states-are (r .ready)) (λ i b. front-beyond marks part k marks-long (decides .row .same) i b ∙ table-rest z i b);
           }
 
-pub ruleset decide-laws = (small, some, rows-few, store-asked, clear-asked, words-long, words-counted, index-long, few-moves, marks-long, marks-counted)
+pub ruleset decide-laws = (small, some, few-nodes, rows-few, store-asked, clear-asked, words-long, words-counted, index-long, few-moves, marks-long, marks-counted)
 
 drop-beyond : (n : ℕ) (l l₀ : List ℕ) → length l ≡ length l₀ → ((k : ℕ) → n ≤ k → at l k ≡ at l₀ k) → drop n l ≡ drop n l₀
 drop-beyond n l l₀ e h =

@@ -1,10 +1,11 @@
 // The report of a job that passed all tests.
 use formula::Nodes;
+use formula::Test;
 use refusals::Dimensions;
 ghost use Rattle.checker.specs.Job.{buffers};
 ghost use Rattle.checker.specs.Report.{DecideAll, Decided, ClearAsked, Cleared, ReportAsked, ReportLeft};
 
-// Stores the sheet and decides the formula over it: its report in the first mark bytes and vector words, and its depth.
+// Stores the sheet, with the index of its moves if a node may need a search, and decides the formula over it: its report in the first mark bytes and vector words, and its depth.
 fn decide_all(
     sheet: Dimensions,
     nodes: Nodes,
@@ -22,7 +23,8 @@ fn decide_all(
     let m = sheet.moves;
     let root = nodes.count - 1;
     let rows = nodes.count * n;
-    sheet_words::store(moves, labels, sheet, words, vectors);
+    let searches = !formula::all_pass(nodes, Test::NoSearch);
+    sheet_words::store(moves, labels, sheet, words, vectors, searches);
     verdict_rows::clear(marks, rows);
     let laid = &words[..];
     decide::decide(

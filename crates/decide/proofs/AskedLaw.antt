@@ -77,7 +77,7 @@ module _ {mv ix l marks : List ℕ} {nodes : List Node} {node limit n q : ℕ} (
   under x = formulaAt (a .names) limit nodes x
 
   -- an operand is asked, with a level less, of other words and marks
-  abbrev pub operand : (x : ℕ) (l' m : List ℕ) → x < node → Prepared mv l' n q → Owns (a .c) l' n → IndexShows (a .c) ix l' (ownsFrom n) n → Marked (a .c) (a .names) l' n → levels (under x) ≤ limit
+  abbrev pub operand : (x : ℕ) (l' m : List ℕ) → x < node → Prepared mv l' n q → Owns (a .c) l' n → (IndexShows (a .c) ix l (ownsFrom n) n → IndexShows (a .c) ix l' (ownsFrom n) n) → Marked (a .c) (a .names) l' n → levels (under x) ≤ limit
       → levels (under x) * n ≤ length m → ((k : ℕ) → n ≤ k → at m k ≡ 0) → DecideAsked mv ix l' m nodes x limit n q
   operand x l' m h prepared owns index marked deep room clear =
       record {
@@ -88,7 +88,7 @@ module _ {mv ix l marks : List ℕ} {nodes : List Node} {node limit n q : ℕ} (
         prepared = prepared;
         owns = owns;
         few-words = a .few-words;
-        index = index;
+        index = λ k i e. index (a .index k (omega arith) e);
         marked = marked;
         inside = omega (arith, a .inside);
         fits = λ k i. a .fits k (omega arith);

@@ -1,10 +1,10 @@
 -- The report of a `P`, by the kind of its path. Assumes nothing.
-use mathlib.Core.Path.{_≡_}
+use mathlib.Core.Path.{_≡_, refl}
 use mathlib.Core.List.{List}
 use Prim.Native.Nat.{ℕ, _*_, _≤_}
 use native.Mathlib.Omega.{arith}
 use lib.ListN.{length}
-use borrow.Author.Tests.{leb-true}
+use borrow.Author.Tests.{leb-true, ne-eqb}
 use Rattle.csl.specs.Limits.{mostRateHundredths}
 use Rattle.csl.specs.Formula.{Comparison}
 use Rattle.formula.specs.Nodes.{pathMeant}
@@ -23,7 +23,7 @@ module _ {mv ix l marks : List ℕ} {o : Path} {p n q : ℕ} (a : ChanceAsked mv
           shows = a .shows;
           prepared = a .prepared;
           few-words = a .few-words;
-          index = a .index;
+          index = λ z d. a .index (rw (e, z, ne-eqb t 0 d) refl);
           load = leb-true (q * t) mostRateHundredths (rw e at (a .load));
           threshold = a .threshold;
           held = let h : 2 * n ≤ length marks = rw e at (a .held) in omega arith;

@@ -82,7 +82,7 @@ module _ {mv ix l marks : List ℕ} {nodes : List Node} {node limit n q : ℕ} (
           prepared = prepared-kept (a .prepared) (left .same) (λ k h i o. left .after k h);
           owns = owns-kept (a .owns) (left .after);
           few-words = a .few-words;
-          index = index-kept (a .index) (λ t h. left .after (ownsFrom n + t) (omega arith));
+          index = λ e. index-kept (a .index node (omega arith) e) (λ t h. left .after (ownsFrom n + t) (omega arith));
           marked = λ i h s k. rw (left .after (marksFrom n + s) (omega arith)) (a .marked i h s k);
           label = a .fits node (omega arith) .label;
           limits = a .fits node (omega arith) .limits;

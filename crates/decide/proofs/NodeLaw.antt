@@ -124,7 +124,7 @@ module _ {mv ix l marks : List ℕ} {k : Kind} {n q : ℕ} (a : NodeAsked mv ix 
           prepared = a .prepared;
           owns = a .owns;
           few-words = a .few-words;
-          index = a .index;
+          index = λ h. a .index (rw e h);
           load = rw e at (a .load);
           threshold = leb-true p mostThreshold (and-eq-true-iff (leb p mostThreshold) _ .0 (rw e at (a .limits)) .0);
           held = rw e at (a .held);

@@ -72,7 +72,7 @@ module _ {mv ix l marks : List ℕ} {nodes : List Node} {node limit n q : ℕ} (
 
     abbrev pub may-one : DecideAsked mv ix l marks nodes x limit n q
     may-one =
-        operand a x l marks (rw (← is, e) at (a .fits node (omega arith) .before)) (a .prepared) (a .owns) (a .index) (a .marked) (omega (arith, deeper, a .deep))
+        operand a x l marks (rw (← is, e) at (a .fits node (omega arith) .before)) (a .prepared) (a .owns) (λ i. i) (a .marked) (omega (arith, deeper, a .deep))
         (room-for a (levels (under a x)) (omega (arith, deeper))) (a .clear)
 
     pub one-left : {l₁ m₁ : List ℕ} {r : ℕ} → Leaves mv ix l l₁ marks m₁ nodes x limit n q r → OperandsLeft a l₁ m₁
@@ -91,7 +91,7 @@ module _ {mv ix l marks : List ℕ} {nodes : List Node} {node limit n q : ℕ} (
 
     abbrev pub may-first : DecideAsked mv ix l marks nodes x limit n q
     may-first =
-        operand a x l marks (before .0) (a .prepared) (a .owns) (a .index) (a .marked) (omega (arith, deepest, a .deep))
+        operand a x l marks (before .0) (a .prepared) (a .owns) (λ i. i) (a .marked) (omega (arith, deepest, a .deep))
         (room-for a (levels (under a x)) (omega (arith, deepest))) (a .clear)
 
     module _ {l₁ m₁ : List ℕ} {r₁ : ℕ} (u : Leaves mv ix l l₁ marks m₁ nodes x limit n q r₁) where
@@ -101,7 +101,7 @@ module _ {mv ix l marks : List ℕ} {nodes : List Node} {node limit n q : ℕ} (
       abbrev pub may-second : DecideAsked mv ix l₁ (rest m₁ n) nodes y limit n q
       may-second =
           let v = u may-first in
-          operand a y l₁ (rest m₁ n) (before .1) (still-prepared (a .prepared) (v .ends)) (still-owns (a .owns) (v .ends)) (still-index (a .index) (v .ends))
+          operand a y l₁ (rest m₁ n) (before .1) (still-prepared (a .prepared) (v .ends)) (still-owns (a .owns) (v .ends)) (λ i. still-index i (v .ends))
           (marked-kept (a .c) (a .names) (a .marked) (v .ends)) (omega (arith, deepest, a .deep))
           (omega (arith, room-for a (1 + levels (under a y)) (omega (arith, deepest)), v .row .same, rest-length m₁ n))
           (λ k h. rest-at m₁ n k ∙ table-rest (v .row) (n + k) (omega arith) ∙ a .clear (n + k) (omega arith))

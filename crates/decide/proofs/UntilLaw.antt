@@ -92,15 +92,16 @@ module _ {mv ix l l' marks : List ℕ} {n q t p d : ℕ} (a : UntilAsked mv ix l
         (λ s b. ends-found (a .c) t v w shallow s (there s b) .upper-range)
 
   -- so the row may be judged
-  abbrev pub may-judge : JudgeAsked ix l' marks n
+  abbrev pub may-judge : JudgeAsked ix l' marks n t p
   may-judge =
       record {
         c = a .c;
+        of = a .shows .states;
         states = a .prepared .rates .lines .states;
         few = a .few-words;
         long = omega (arith, u .ends .same, a .prepared .rates .long);
         clear = λ k b. u .ends .after (valuesFrom n + k) (omega arith) ∙ a .prepared .clear .columns (valuesFrom n + k) (omega arith) (omega arith);
-        index = index-kept (a .index) (λ s b. u .ends .after (ownsFrom n + s) (omega arith));
+        index = λ z d. index-kept (a .index z d) (λ s b. u .ends .after (ownsFrom n + s) (omega arith));
         ends = ends-range (λ s. verdictAt (at marks s)) (λ s. verdictAt (at marks (n + s))) (λ s b. refl) (λ s b. refl);
         held = a .held;
       }
@@ -116,7 +117,7 @@ behind-both n s x y = go (ltb s n) refl (ltb s (n + n)) refl
 
 -- and is, for whatever verdicts the rows hold
 module _ {mv ix l l' marks m₁ m₂ : List ℕ} {n q t p d : ℕ} {r : Comparison} (u : Until mv marks (rest marks n) n q t l l' d)
-    (j : (b : JudgeAsked ix l' marks n) → JudgeLeaves b r p t m₁) (z : Filled (λ s. 0) n n m₁ m₂) where
+    (j : (b : JudgeAsked ix l' marks n t p) → JudgeLeaves b r m₁) (z : Filled (λ s. 0) n n m₁ m₂) where
   until-left : (a : UntilAsked mv ix l marks n q t p) → UntilLeaves a r l' m₂ d
   until-left a v w h k =
       let g : Judges (a .c) r p (untilOf t v w) n l' marks m₁ = j (may-judge a u) v w (record { first = h; second = k }) in

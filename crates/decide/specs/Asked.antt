@@ -1,6 +1,6 @@
 -- What deciding a node asks, and what it leaves. Assumes nothing.
 use mathlib.Core.Path.{_≡_}
-use mathlib.Core.Bool.{true}
+use mathlib.Core.Bool.{true, false}
 use mathlib.Core.List.{List, []}
 use Prim.Native.Nat.{ℕ, _+_, _*_, _/_, _%_, _^_, _≤_, _<_}
 use lib.ListN.{length, getD}
@@ -25,7 +25,7 @@ use Rattle.formula.specs.FormulaAt.{formulaAt}
 use Rattle.formula.specs.Pass.{passed}
 use Rattle.formula.specs.declared.nodes.Kind.{Kind}
 use Rattle.formula.specs.declared.nodes.Node.{Node}
-use Rattle.formula.specs.declared.pass.Test.the-variants.{Labels, Limits, Load}
+use Rattle.formula.specs.declared.pass.Test.the-variants.{Labels, Limits, Load, NoSearch}
 
 -- the label marks among the vector words: in the word of each state, the bit of each name's place
 abbrev pub Marked : Chain → List Text → List ℕ → ℕ → Type 0
@@ -39,7 +39,7 @@ pub record NodeFits (names : List Text) (q k : ℕ) (x : Kind) : Type 0 where
   pub load : passed (Load q) x ≡ true
 
 -- A node is to be decided whose formula has no more levels than the limit: the words are prepared for a chain c whose labels have these names,
--- its rates to the own state are in their column, the index of its moves is there, and the marks have a row for each level, all of which but the first hold 0.
+-- its rates to the own state are in their column, the index of its moves is there if a node may need a search, and the marks have a row for each level, all of which but the first hold 0.
 pub record DecideAsked (mv ix l marks : List ℕ) (nodes : List Node) (node limit n q : ℕ) : Type 0 where
   pub c : Chain
   pub names : List Text
@@ -48,7 +48,7 @@ pub record DecideAsked (mv ix l marks : List ℕ) (nodes : List Node) (node limi
   pub prepared : Prepared mv l n q
   pub owns : Owns c l n
   pub few-words : length ix ≤ mostMoves
-  pub index : IndexShows c ix l (ownsFrom n) n
+  pub index : (k : ℕ) → k ≤ node → passed NoSearch (kindAt nodes k) ≡ false → IndexShows c ix l (ownsFrom n) n
   pub marked : Marked c names l n
   pub inside : node < mostNodes
   pub fits : (k : ℕ) → k ≤ node → NodeFits names q k (kindAt nodes k)

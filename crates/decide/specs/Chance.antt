@@ -1,6 +1,6 @@
 -- What the report of a `P` asks, once its path's operands are decided, and what it leaves. Assumes nothing.
 use mathlib.Core.Path.{_≡_}
-use mathlib.Core.Bool.{true}
+use mathlib.Core.Bool.{true, false}
 use mathlib.Core.List.{List}
 use Prim.Native.Nat.{ℕ, _+_, _*_, _≤_, _<_}
 use lib.ListN.{length}
@@ -21,7 +21,7 @@ use Rattle.vectors.specs.Owns.{Owns}
 use Rattle.verdict_rows.specs.Row.{EndsIn}
 use Rattle.formula.specs.Nodes.{pathMeant}
 use Rattle.formula.specs.Operands.{operandsIn}
-use Rattle.formula.specs.Pass.{lightOf}
+use Rattle.formula.specs.Pass.{lightOf, unsearched}
 use Rattle.formula.specs.declared.nodes.Path.{Path}
 use Rattle.decide.specs.Rows.{rowsOf, RowsHold, RowLeft}
 
@@ -41,7 +41,7 @@ pub record UntilAsked (mv ix l marks : List ℕ) (n q t p : ℕ) : Type 0 where
   pub shows : Shows c mv (length mv) n
   pub prepared : Prepared mv l n q
   pub few-words : length ix ≤ mostMoves
-  pub index : IndexShows c ix l (ownsFrom n) n
+  pub index : p ≡ 0 → (t ≡ 0 → ⊥) → IndexShows c ix l (ownsFrom n) n
   pub load : q * t ≤ mostRateHundredths
   pub threshold : p ≤ mostThreshold
   pub held : n + n ≤ length marks
@@ -81,7 +81,7 @@ pub record ChanceAsked (mv ix l marks : List ℕ) (path : Path) (p n q : ℕ) : 
   pub prepared : Prepared mv l n q
   pub owns : Owns c l n
   pub few-words : length ix ≤ mostMoves
-  pub index : IndexShows c ix l (ownsFrom n) n
+  pub index : unsearched p (pathMeant path) ≡ false → IndexShows c ix l (ownsFrom n) n
   pub load : phasesPass (lightOf q) (pathMeant path) ≡ true
   pub threshold : p ≤ mostThreshold
   pub held : rowsOf (operandsIn (pathMeant path)) * n ≤ length marks

@@ -14,7 +14,7 @@ use Rattle.formula.specs.declared.nodes.Nodes.{Nodes}
 use Rattle.formula.specs.declared.pass.Test.the-variants.{Labels, Limits, Load}
 use Rattle.decide.specs.Asked.{NodeFits}
 
-each-below : (p : ℕ → Bool) (n : ℕ) → allBelow p n ≡ true → (k : ℕ) → k < n → p k ≡ true
+pub each-below : (p : ℕ → Bool) (n : ℕ) → allBelow p n ≡ true → (k : ℕ) → k < n → p k ≡ true
 unfolding allBelow
 each-below p zero h k i = absurd (omega arith)
 each-below p (suc n) h k i =

@@ -1,6 +1,6 @@
 -- What the report of a node asks, once its operands are decided, and what it leaves. Assumes nothing.
 use mathlib.Core.Path.{_≡_}
-use mathlib.Core.Bool.{true}
+use mathlib.Core.Bool.{true, false}
 use mathlib.Core.List.{List}
 use Prim.Native.Nat.{ℕ, _*_, _≤_}
 use lib.ListN.{length}
@@ -22,7 +22,7 @@ use Rattle.formula.specs.FormulaAt.{formulaOver}
 use Rattle.formula.specs.Pass.{passed}
 use Rattle.formula.specs.declared.nodes.Kind.{Kind}
 use Rattle.formula.specs.declared.operands.Operands.{Operands}
-use Rattle.formula.specs.declared.pass.Test.the-variants.{Labels, Limits, Load}
+use Rattle.formula.specs.declared.pass.Test.the-variants.{Labels, Limits, Load, NoSearch}
 use Rattle.decide.specs.Asked.{Marked}
 use Rattle.decide.specs.Rows.{rowsOf, RowsHold, RowLeft}
 
@@ -35,7 +35,7 @@ pub record NodeAsked (mv ix l marks : List ℕ) (kind : Kind) (n q : ℕ) : Type
   pub prepared : Prepared mv l n q
   pub owns : Owns c l n
   pub few-words : length ix ≤ mostMoves
-  pub index : IndexShows c ix l (ownsFrom n) n
+  pub index : passed NoSearch kind ≡ false → IndexShows c ix l (ownsFrom n) n
   pub marked : Marked c names l n
   pub label : passed (Labels (length names)) kind ≡ true
   pub limits : passed Limits kind ≡ true

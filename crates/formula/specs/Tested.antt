@@ -12,7 +12,7 @@ use Rattle.formula.specs.Nodes.{pathMeant}
 use Rattle.formula.specs.Pass.{placePasses, pathPasses, allBelow, placePassed}
 use Rattle.formula.specs.declared.nodes.Node.{Node}
 use Rattle.formula.specs.declared.pass.Test.{Test}
-use Rattle.formula.specs.declared.pass.Test.the-variants.{Labels, Limits, Load}
+use Rattle.formula.specs.declared.pass.Test.the-variants.{Labels, Limits, Load, NoSearch}
 use Rattle.formula.specs.Listed.{pathHeld, listed, listedIn}
 use Rattle.formula.specs.Stands.{Stands, first-held, second-held, always-held, label-held, negated-held, both-held, chance-held}
 
@@ -63,6 +63,7 @@ same-times : {A B : Type 0} (o : PathOf A) (x : PathOf B) (test : Test) (p : ℕ
 same-times o x (Labels names) p h k = refl
 same-times o x Limits p h k = rw h
 same-times o x (Load q) p h k = k _
+same-times o x NoSearch p h k = rw h
 
 path-tested : (test : Test) (p i n : ℕ) (w : csl.Path) → pathPasses test p (pathMeant (pathHeld i n w)) ≡ pathPasses test p (pathOf w)
 path-tested test p i n (csl.until t a c) = same-times _ _ test p (λ f. refl) (λ f. refl)

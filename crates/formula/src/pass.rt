@@ -11,14 +11,15 @@ ghost use lib.Dec.{leb};
 ghost use Rattle.csl.specs.Limits.{mostNodes, mostHundredths};
 ghost use Rattle.csl.specs.Formula.{timesPass, phasesPass};
 ghost use Rattle.formula.specs.Nodes.{pathMeant};
-ghost use Rattle.formula.specs.Pass.{lightOf, placePasses, pathPasses, passed, allPassed};
+ghost use Rattle.formula.specs.Pass.{lightOf, unsearched, placePasses, pathPasses, passed, allPassed};
 
 // What is asked of every node: a label's place below a number of names; thresholds and hours within their limits; a rate times the
-// hours, in hundredths, within its limit.
+// hours, in hundredths, within its limit; or that no search along the moves may decide it.
 pub enum Test {
     Labels(usize),
     Limits,
     Load(u64),
+    NoSearch,
 }
 
 // The rate times the hundredths of an hour is within its limit.
@@ -39,6 +40,7 @@ fn place_passes(test: Test, place: usize) -> bool
         Test::Labels(names) => place < names,
         Test::Limits => true,
         Test::Load(_) => true,
+        Test::NoSearch => true,
     }
 }
 
@@ -70,6 +72,23 @@ fn load_passes(rate: u64, path: Path) -> bool
     }
 }
 
+// Whether no search along the moves may decide a `P`: it may with the threshold 0, where an until has time.
+fn no_search(threshold: u64, path: Path) -> bool
+    ensures { λ r. ⌜ r ≡ unsearched threshold (pathMeant path) ⌝ }
+{
+    if threshold != 0 {
+        return true;
+    }
+    match path {
+        Path::Until {
+            hundredths,
+            first: _,
+            second: _,
+        } => hundredths == 0,
+        Path::Next(_) => true,
+    }
+}
+
 // Whether the threshold and the path formula of a `P` pass a test.
 fn path_passes(test: Test, threshold: u64, path: Path) -> bool
     ensures { λ r. ⌜ r ≡ pathPasses test threshold (pathMeant path) ⌝ }
@@ -78,6 +97,7 @@ fn path_passes(test: Test, threshold: u64, path: Path) -> bool
         Test::Labels(_) => true,
         Test::Limits => threshold <= MOST_THRESHOLD && hours_pass(path),
         Test::Load(rate) => load_passes(rate, path),
+        Test::NoSearch => no_search(threshold, path),
     }
 }
 

@@ -103,36 +103,36 @@ module _ (c : Chain) (v w : ℕ → Verdict) (n : ℕ) (rows : List ℕ) (is : c
       ∙ as-no-mark (leadsIn c (least v) (least w) (c .states) s)
 
 -- asking the moves
-module _ {ix l rows : List ℕ} {n p : ℕ} (a : AskAsked ix l rows n p) where
-  abbrev pub may-search : SearchAsked ix l rows n
-  may-search =
+module _ {ix l rows : List ℕ} {n t p : ℕ} (a : AskAsked ix l rows n t p) where
+  abbrev pub may-search : p ≡ 0 → (t ≡ 0 → ⊥) → SearchAsked ix l rows n
+  may-search z e =
       record {
         c = a .judge .c;
         states = a .judge .states;
         few = a .judge .few;
         long = a .judge .long;
         clear = a .judge .clear;
-        shows = a .judge .index;
+        shows = a .judge .index z e;
         held = a .judge .held;
         decided = all-decided (n + n) (verdicts rows) (decide-both p (n + n) rows (a .decide) .1);
       }
 
   -- with 1,000,000,000, and at time 0, where the second operand holds
-  pub asked-certain : (t : ℕ) → (p ≡ 0 → ⊥) → AskLeaves a t rows
-  asked-certain t z v w h =
+  pub asked-certain : (p ≡ 0 → ⊥) → AskLeaves a rows
+  asked-certain z v w h =
       record { same = refl; told = λ s b. ap asNo (h .second s b) ∙ rw (ne-eqb p 0 z) refl; beyond = λ k b. refl }
 
-  pub asked-at-once : (t : ℕ) → p ≡ 0 → t ≡ 0 → AskLeaves a t rows
-  asked-at-once t z e v w h =
+  pub asked-at-once : p ≡ 0 → t ≡ 0 → AskLeaves a rows
+  asked-at-once z e v w h =
       record { same = refl; told = λ s b. ap asNo (h .second s b) ∙ rw (z, e) refl; beyond = λ k b. refl }
 
   -- else by a search
-  pub asked-search : (t : ℕ) {rows' : List ℕ} → p ≡ 0 → (t ≡ 0 → ⊥) → ((b : SearchAsked ix l rows n) → Searched (b .c) n rows rows') → AskLeaves a t rows'
-  asked-search t {rows'} z e f v w h =
-      let g : Searched (a .judge .c) n rows rows' = f may-search in
+  pub asked-search : {rows' : List ℕ} → p ≡ 0 → (t ≡ 0 → ⊥) → ((b : SearchAsked ix l rows n) → Searched (b .c) n rows rows') → AskLeaves a rows'
+  asked-search {rows'} z e f v w h =
+      let g : Searched (a .judge .c) n rows rows' = f (may-search z e) in
       record {
         same = g .same;
-        told = λ s b. searched-told (a .judge .c) v w n rows (a .judge .index .states) h s b (verdictAt (at rows' (n + s))) (g .tells s b) ∙ rw (z, ne-eqb t 0 e) refl;
+        told = λ s b. searched-told (a .judge .c) v w n rows (a .judge .of) h s b (verdictAt (at rows' (n + s))) (g .tells s b) ∙ rw (z, ne-eqb t 0 e) refl;
         beyond = g .beyond;
       }
 
@@ -146,19 +146,19 @@ moves-one r p b possible certain = go (eqb p 0)
     go true e = rw e refl
     go false e = rw e refl
 
-module _ {ix l rows : List ℕ} {n : ℕ} (a : JudgeAsked ix l rows n) (p : ℕ) {b : Bool} (e : b ≡ movesDecide p (n + n) rows) where
+module _ {ix l rows : List ℕ} {n t p : ℕ} (a : JudgeAsked ix l rows n t p) {b : Bool} (e : b ≡ movesDecide p (n + n) rows) where
   -- by the moves
   module _ (d : b ≡ true) where
-    abbrev pub may-ask : AskAsked ix l rows n p
+    abbrev pub may-ask : AskAsked ix l rows n t p
     may-ask = record { judge = a; decide = sym e ∙ d }
 
-    module _ (t : ℕ) {rows₁ : List ℕ} (f : (k : AskAsked ix l rows n p) → AskLeaves k t rows₁) (r : Comparison) where
-      pub judged-by-moves : {rows₂ : List ℕ} → Table (λ s. toldByte r p (at rows₁ (n + s))) rows₁ rows₂ n → JudgeLeaves a r p t rows₂
+    module _ {rows₁ : List ℕ} (f : (k : AskAsked ix l rows n t p) → AskLeaves k rows₁) (r : Comparison) where
+      pub judged-by-moves : {rows₂ : List ℕ} → Table (λ s. toldByte r p (at rows₁ (n + s))) rows₁ rows₂ n → JudgeLeaves a r rows₂
       unfolding toldByte
       judged-by-moves j v w h =
           let g : Asks (a .c) p (untilOf t v w) n rows rows₁ = f may-ask v w h in
           let decided : cond (decidedPath (a .c) (untilOf t v w)) (isZeroOrOne p) false ≡ true
-          = decide-is (a .c) v w n rows (a .index .states) h p t ∙ sym e ∙ d in
+          = decide-is (a .c) v w n rows (a .of) h p t ∙ sym e ∙ d in
           record {
             same = j .same ∙ g .same;
             row = λ s i.
@@ -169,11 +169,11 @@ module _ {ix l rows : List ℕ} {n : ℕ} (a : JudgeAsked ix l rows n) (p : ℕ)
           }
 
   -- by the ends
-  pub judged-by-ends : (r : Comparison) (t : ℕ) → b ≡ false → {rows' : List ℕ} → Table (λ s. judgedByte r p (at l s) (at l (n + s))) rows rows' n → JudgeLeaves a r p t rows'
+  pub judged-by-ends : (r : Comparison) → b ≡ false → {rows' : List ℕ} → Table (λ s. judgedByte r p (at l s) (at l (n + s))) rows rows' n → JudgeLeaves a r rows'
   unfolding judgedByte
-  judged-by-ends r t d j v w h =
+  judged-by-ends r d j v w h =
       let decided : cond (decidedPath (a .c) (untilOf t v w)) (isZeroOrOne p) false ≡ false
-      = decide-is (a .c) v w n rows (a .index .states) h p t ∙ sym e ∙ d in
+      = decide-is (a .c) v w n rows (a .of) h p t ∙ sym e ∙ d in
       record { same = j .same; row = λ s i. table-at j s i ∙ rw decided refl; beyond = λ k i. table-rest j k (omega arith) }
 
 pub ruleset judge-laws = (may-ask, judged-by-moves, judged-by-ends)

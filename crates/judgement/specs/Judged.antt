@@ -28,14 +28,16 @@ pub record Hold (v w : ℕ → Verdict) (n : ℕ) (rows : List ℕ) : Type 0 whe
   pub first : (s : ℕ) → s < n → verdictAt (at rows s) ≡ v s
   pub second : (s : ℕ) → s < n → verdictAt (at rows (n + s)) ≡ w s
 
--- The row of a `P` over an until is to be judged by its ends or the moves: its ends stand in the words, and the index of the chain's moves is there.
-pub record JudgeAsked (ix l rows : List ℕ) (n : ℕ) : Type 0 where
+-- The row of a `P` with the threshold p over an until of t hundredths of an hour is to be judged by its ends or the moves: its ends stand in the
+-- words, and if it may need a search the index of the chain's moves is there.
+pub record JudgeAsked (ix l rows : List ℕ) (n t p : ℕ) : Type 0 where
   pub c : Chain
+  pub of : c .states ≡ n
   pub states : n ≤ mostStates
   pub few : length ix ≤ mostMoves
   pub long : vectorLength n ≤ length l
   pub clear : (k : ℕ) → k < n → at l (valuesFrom n + k) ≡ 0
-  pub index : IndexShows c ix l (ownsFrom n) n
+  pub index : p ≡ 0 → (t ≡ 0 → ⊥) → IndexShows c ix l (ownsFrom n) n
   pub ends : EndsIn n l
   pub held : n + n ≤ length rows
 
@@ -50,12 +52,12 @@ pub record Judges (c : Chain) (r : Comparison) (p : ℕ) (o : PathOf (ℕ → Ve
   pub row : (s : ℕ) → s < n → at rows s ≡ followingByte c r p o s (at l s) (at l (n + s))
   pub beyond : (k : ℕ) → n + n ≤ k → at rows k ≡ at rows₀ k
 
-abbrev pub JudgeLeaves : {ix l rows : List ℕ} {n : ℕ} → JudgeAsked ix l rows n → Comparison → (p t : ℕ) → (rows' : List ℕ) → Type 0
-JudgeLeaves {l = l} {rows = rows} {n = n} a r p t rows' = (v w : ℕ → Verdict) → Hold v w n rows → Judges (a .c) r p (untilOf t v w) n l rows rows'
+abbrev pub JudgeLeaves : {ix l rows : List ℕ} {n t p : ℕ} → JudgeAsked ix l rows n t p → Comparison → (rows' : List ℕ) → Type 0
+JudgeLeaves {l = l} {rows = rows} {n = n} {t = t} {p = p} a r rows' = (v w : ℕ → Verdict) → Hold v w n rows → Judges (a .c) r p (untilOf t v w) n l rows rows'
 
 -- The moves are to be asked: they decide.
-pub record AskAsked (ix l rows : List ℕ) (n p : ℕ) : Type 0 where
-  pub judge : JudgeAsked ix l rows n
+pub record AskAsked (ix l rows : List ℕ) (n t p : ℕ) : Type 0 where
+  pub judge : JudgeAsked ix l rows n t p
   pub decide : movesDecide p (n + n) rows ≡ true
 
 -- The second row says where what the threshold p asks for holds.
@@ -64,8 +66,8 @@ pub record Asks (c : Chain) (p : ℕ) (o : PathOf (ℕ → Verdict)) (n : ℕ) (
   pub told : (s : ℕ) → s < n → asNo (verdictAt (at rows (n + s))) ≡ cond (eqb p 0) (possiblePath c o s) (certainPath c o s)
   pub beyond : (k : ℕ) → n + n ≤ k → at rows k ≡ at rows₀ k
 
-abbrev pub AskLeaves : {ix l rows : List ℕ} {n p : ℕ} → AskAsked ix l rows n p → (t : ℕ) → (rows' : List ℕ) → Type 0
-AskLeaves {rows = rows} {n = n} {p = p} a t rows' = (v w : ℕ → Verdict) → Hold v w n rows → Asks (a .judge .c) p (untilOf t v w) n rows rows'
+abbrev pub AskLeaves : {ix l rows : List ℕ} {n t p : ℕ} → AskAsked ix l rows n t p → (rows' : List ℕ) → Type 0
+AskLeaves {rows = rows} {n = n} {t = t} {p = p} a rows' = (v w : ℕ → Verdict) → Hold v w n rows → Asks (a .judge .c) p (untilOf t v w) n rows rows'
 
 -- The row of a `P` over a next move is to be judged, and is: of such a path the ends show what is possible and what is certain.
 pub record NextJudgeAsked (l row : List ℕ) (n : ℕ) : Type 0 where

@@ -27,9 +27,9 @@ fn ask_moves(
     hundredths: u64,
     threshold: u32,
 )
-    requires { ⌜ AskAsked (now index) (now words) (now rows) n threshold ⌝ }
-    ensures { λ _. ⌜ ((a : AskAsked (now (index .entry)) (now (words .entry)) (now (rows .entry)) n threshold)
-        → AskLeaves a hundredths (now (rows .exit))) ⌝ }
+    requires { ⌜ AskAsked (now index) (now words) (now rows) n hundredths threshold ⌝ }
+    ensures { λ _. ⌜ ((a : AskAsked (now (index .entry)) (now (words .entry)) (now (rows .entry)) n hundredths threshold)
+        → AskLeaves a (now (rows .exit))) ⌝ }
     ensures same { λ _. ⌜ now (words .exit) ≡ now (words .entry) ⌝ }
 {
     if threshold != 0 {
@@ -51,9 +51,9 @@ pub fn until(
     comparison: Comparison,
     threshold: u32,
 )
-    requires { ⌜ JudgeAsked (now index) (now words) (now rows) n ⌝ }
-    ensures { λ _. ⌜ ((a : JudgeAsked (now (index .entry)) (now (words .entry)) (now (rows .entry)) n)
-        → JudgeLeaves a (comparisonOf comparison) threshold hundredths (now (rows .exit))) ⌝ }
+    requires { ⌜ JudgeAsked (now index) (now words) (now rows) n hundredths threshold ⌝ }
+    ensures { λ _. ⌜ ((a : JudgeAsked (now (index .entry)) (now (words .entry)) (now (rows .entry)) n hundredths threshold)
+        → JudgeLeaves a (comparisonOf comparison) (now (rows .exit))) ⌝ }
     ensures same { λ _. ⌜ now (words .exit) ≡ now (words .entry) ⌝ }
 {
     if moves_decide(rows, n + n, threshold) {

@@ -1,5 +1,6 @@
 -- The words of a sheet, stored one after the other. Assumes nothing.
 use mathlib.Core.Path.{_≡_, refl, sym, ap, _∙_}
+use mathlib.Core.Bool.{Bool, true, false, true≢false}
 use mathlib.Core.List.{List, _++_}
 use Prim.Native.Nat.{ℕ, _+_, _≤_, _<_}
 use native.Mathlib.Omega.{arith}
@@ -26,7 +27,33 @@ use Rattle.incoming_moves.specs.Shown.{IndexShows, may-index, own-kept, else-ke
 use Rattle.vectors.specs.Places.{ownsFrom, marksFrom, vectorLength}
 use Rattle.vectors.specs.Prepared.{PrepareAsked, Laid, prepared-kept}
 use Rattle.refusals.specs.declared.sheet_tests.Dimensions.{Dimensions}
-use Rattle.sheet_words.specs.Stored.{MarksAsked, StoreAsked, Stored}
+use Rattle.sheet_words.specs.Stored.{MarksAsked, IndexStored, StoreAsked, Stored}
+
+-- the index, where it is wanted; where it is not, nothing is changed
+module _ {mv l : List ℕ} {m n : ℕ} (a : IndexAsked mv m l (ownsFrom n) n) where
+  pub index-stored : {wanted : Bool} {mv' l' : List ℕ} → Indexed mv mv' m (ownsFrom n) n l l' → IndexStored wanted mv mv' m n l l'
+  index-stored x =
+      record {
+        same = x .placed .same;
+        moves = x .placed .moves;
+        after = x .placed .after;
+        long = x .ends .same;
+        owns = own-kept a x;
+        else = else-kept a x;
+        index = λ e. x;
+      }
+
+  pub none-stored : {wanted : Bool} → wanted ≡ false → IndexStored wanted mv mv m n l l
+  none-stored e =
+      record {
+        same = refl;
+        moves = λ j b. refl;
+        after = λ k b. refl;
+        long = refl;
+        owns = λ s b. omega (arith, a .small s b);
+        else = λ k b. refl;
+        index = λ h. absurd (true≢false (sym h ∙ e));
+      }
 
 -- the moves of a sheet that passed, as words with all their rates
 module _ {m₀ labels : Text} (p : SheetPassed m₀ labels) {words₀ lines : List ℕ} (room : length (movesOf m₀) ≤ length words₀)
@@ -78,12 +105,12 @@ module _ {m₀ labels : Text} (p : SheetPassed m₀ labels) {words₀ lines : Li
 
     -- indexed, and then marked
     module _ (wide : length (movesOf m₀) + length (movesOf m₀) ≤ length words₀) (long : vectorLength (statesOf labels) ≤ length vectors₀)
-        {words vectors₂ : List ℕ} (x : Indexed laid words (length (movesOf m₀)) (ownsFrom (statesOf labels)) (statesOf labels) vectors₁ vectors₂) where
+        {wanted : Bool} {words vectors₂ : List ℕ} (x : IndexStored wanted laid words (length (movesOf m₀)) (statesOf labels) vectors₁ vectors₂) where
       asked : IndexAsked laid (length (movesOf m₀)) vectors₁ (ownsFrom (statesOf labels)) (statesOf labels)
       asked = index-asked wide long
 
       words-same : length words ≡ length words₀
-      words-same = x .placed .same ∙ laid-same
+      words-same = x .same ∙ laid-same
 
       -- the first words are still those that were laid
       is-part : take (length (movesOf m₀)) words ≡ part
@@ -91,7 +118,7 @@ module _ {m₀ labels : Text} (p : SheetPassed m₀ labels) {words₀ lines : Li
           ext-getD 0 _ part (length-take-le (length (movesOf m₀)) words (omega (arith, words-same)) ∙ sym part-many)
           (λ k b.
           let i : k < length (movesOf m₀) = omega (arith, length-take-le (length (movesOf m₀)) words (omega (arith, words-same))) in
-          getD-take (length (movesOf m₀)) words k 0 i ∙ x .placed .moves k i ∙ sym (laid-at k i))
+          getD-take (length (movesOf m₀)) words k 0 i ∙ x .moves k i ∙ sym (laid-at k i))
 
       abbrev behind : List ℕ
       behind = take (length (movesOf m₀)) (drop (length (movesOf m₀)) words)
@@ -101,29 +128,29 @@ module _ {m₀ labels : Text} (p : SheetPassed m₀ labels) {words₀ lines : Li
           length-take-le (length (movesOf m₀)) (drop (length (movesOf m₀)) words)
           (omega (arith, words-same, length-drop (length (movesOf m₀)) words))
 
-      shown : IndexShows (chainOf (sheetOf m₀ labels)) behind vectors₂ (ownsFrom (statesOf labels)) (statesOf labels)
-      shown =
-          index-shows behind asked x (rw part-many at shows) laid-at moving behind-many
+      shown : wanted ≡ true → IndexShows (chainOf (sheetOf m₀ labels)) behind vectors₂ (ownsFrom (statesOf labels)) (statesOf labels)
+      shown e =
+          index-shows behind asked (x .index e) (rw part-many at shows) laid-at moving behind-many
           (λ k b. getD-take (length (movesOf m₀)) (drop (length (movesOf m₀)) words) k 0 b ∙ getD-drop (length (movesOf m₀)) words k 0)
 
       all-stored : {vectors : List ℕ} → Filled (stateWord labels) (marksFrom (statesOf labels)) (statesOf labels) vectors₂ vectors
-          → Stored m₀ labels words₀ words vectors₀ vectors
+          → Stored wanted m₀ labels words₀ words vectors₀ vectors
       all-stored {vectors} f =
           let m = length (movesOf m₀) in
           record {
-            lines = λ j b. x .placed .moves j b ∙ sym (laid-at j b) ∙ l .away .word j (omega (arith, many)) ∙ ap wordAway (holds j b);
-            index = index-kept shown (λ s b. f .before _ (omega arith));
+            lines = λ j b. x .moves j b ∙ sym (laid-at j b) ∙ l .away .word j (omega (arith, many)) ∙ ap wordAway (holds j b);
+            index = λ e. index-kept (shown e) (λ s b. f .before _ (omega arith));
             words-same = words-same;
-            words-beyond = λ k b. x .placed .after k b ∙ front-beyond lines part m first-within (l .away .same) k (omega arith) ∙ table-rest t k (omega arith);
+            words-beyond = λ k b. x .after k b ∙ front-beyond lines part m first-within (l .away .same) k (omega arith) ∙ table-rest t k (omega arith);
             taken = ap length is-part ∙ part-many;
             prepared = rw (is-part, top-shown shows)
-                (prepared-kept (l .prepared) (f .same ∙ x .ends .same)
-                (λ k a b o. f .before k b ∙ else-kept asked x k (λ c d. o c (omega arith))));
-            owns = λ s b. ap ownRate (f .before _ (omega arith)) ∙ own-kept asked x s b ∙ l .owns s b ∙ owns-stored first (sheetOf m₀ labels) (p .sound) holds many s;
-            ends = λ k b. f .before k (omega arith) ∙ else-kept asked x k (λ c d. omega arith) ∙ l .ends k b;
+                (prepared-kept (l .prepared) (f .same ∙ x .long)
+                (λ k a b o. f .before k b ∙ x .else k (λ c d. o c (omega arith))));
+            owns = λ s b. ap ownRate (f .before _ (omega arith)) ∙ x .owns s b ∙ l .owns s b ∙ owns-stored first (sheetOf m₀ labels) (p .sound) holds many s;
+            ends = λ k b. f .before k (omega arith) ∙ x .else k (λ c d. omega arith) ∙ l .ends k b;
             marks = f .filled;
-            same = f .same ∙ x .ends .same ∙ l .same;
-            beyond = λ k b. f .after k (omega arith) ∙ else-kept asked x k (λ c d. omega arith) ∙ l .beyond k (omega arith);
+            same = f .same ∙ x .long ∙ l .same;
+            beyond = λ k b. f .after k (omega arith) ∙ x .else k (λ c d. omega arith) ∙ l .beyond k (omega arith);
           }
 
 module _ {m₀ labels : Text} {d : Dimensions} {words₀ vectors₀ : List ℕ} (p : StoreAsked m₀ labels d words₀ vectors₀) where
@@ -150,7 +177,7 @@ module _ {m₀ labels : Text} {d : Dimensions} {words₀ vectors₀ : List ℕ} 
       pub may-index-words : IndexAsked (part ++ drop (d .moves) lines) (d .moves) vectors₁ (ownsFrom (d .states)) (d .states)
       may-index-words = rw (moves-are, states-are) (index-asked (p .passed) room t (rw (moves-are, states-are) at l) (p .room) (p .long))
 
-      module _ {words vectors₂ : List ℕ} (x : Indexed (part ++ drop (d .moves) lines) words (d .moves) (ownsFrom (d .states)) (d .states) vectors₁ vectors₂) where
+      module _ {wanted : Bool} {words vectors₂ : List ℕ} (x : IndexStored wanted (part ++ drop (d .moves) lines) words (d .moves) (d .states) vectors₁ vectors₂) where
         pub marks-asked : MarksAsked labels (d .names) vectors₂ (d .states)
         marks-asked =
             rw (p .is)
@@ -160,11 +187,11 @@ module _ {m₀ labels : Text} {d : Dimensions} {words₀ vectors₀ : List ℕ} 
               few = p .passed .sound .few-names;
               states = refl;
               small = p .passed .sound .few-states;
-              long = omega (arith, x .ends .same, l .same, p .long);
+              long = omega (arith, x .long, l .same, p .long);
             })
 
         pub stored : {vectors : List ℕ} → Filled (stateWord labels) (marksFrom (d .states)) (d .states) vectors₂ vectors
-            → Stored m₀ labels words₀ words vectors₀ vectors
+            → Stored wanted m₀ labels words₀ words vectors₀ vectors
         stored f =
             all-stored (p .passed) room t (rw (moves-are, states-are) at l) (p .room) (p .long) (rw (moves-are, states-are) at x)
             (rw states-are at f)

@@ -63,8 +63,8 @@ bit-one : (b : Bool) → eqb (cond b 1 0) 1 ≡ b
 bit-one true = refl
 bit-one false = refl
 
-module _ {moves labels : Text} {words₀ words vectors₀ vectors : List ℕ} (p : SheetPassed moves labels)
-    (k : Stored moves labels words₀ words vectors₀ vectors) where
+module _ {wanted : Bool} {moves labels : Text} {words₀ words vectors₀ vectors : List ℕ} (p : SheetPassed moves labels)
+    (k : Stored wanted moves labels words₀ words vectors₀ vectors) where
   pub sheet-shown : Shows (chainOf (sheetOf moves labels)) (take (length (movesOf moves)) words) (length (take (length (movesOf moves)) words)) (statesOf labels)
   sheet-shown = shows-stored lines (sheetOf moves labels) (p .sound) (column-at (moveWord moves) m) many away
     where

@@ -1,6 +1,6 @@
 -- What storing a sheet asks, and what the words hold then. Assumes nothing.
 use mathlib.Core.Path.{_≡_}
-use mathlib.Core.Bool.{true}
+use mathlib.Core.Bool.{Bool, true}
 use mathlib.Core.List.{List}
 use Prim.Native.Nat.{ℕ, _+_, _≤_, _<_}
 use lib.ListN.{length, take, drop}
@@ -15,6 +15,7 @@ use Rattle.numbers.specs.Filled.{at}
 use Rattle.moves.specs.Words.{moveWord}
 use Rattle.labels.specs.Words.{stateWord}
 use Rattle.rate_matrix.specs.Packed.{wordAway}
+use Rattle.incoming_moves.specs.Indexed.{Indexed}
 use Rattle.incoming_moves.specs.Shown.{IndexShows}
 use Rattle.vectors.specs.Places.{valuesFrom, ownsFrom, marksFrom, vectorLength, ownAt}
 use Rattle.vectors.specs.Prepared.{Prepared}
@@ -37,12 +38,23 @@ pub record StoreAsked (moves labels : Text) (d : Dimensions) (words vectors : Li
   pub room : length (movesOf moves) + length (movesOf moves) ≤ length words
   pub long : vectorLength (statesOf labels) ≤ length vectors
 
--- The first move words are the sheet's moves, those to the own state without their rates, and behind them is the index of the moves by the state
--- that they enter. The vector words are prepared for them at the sheet's uniformisation rate, with the rates to the own state and the marks of
+-- The index of the first m words, where it is wanted: all words but those behind them are as they were, and all others but for the upper halves
+-- of the column of the rates to the own state.
+pub record IndexStored (wanted : Bool) (mv mv' : List ℕ) (m n : ℕ) (old new : List ℕ) : Type 0 where
+  pub same : length mv' ≡ length mv
+  pub moves : (j : ℕ) → j < m → at mv' j ≡ at mv j
+  pub after : (k : ℕ) → m + m ≤ k → at mv' k ≡ at mv k
+  pub long : length new ≡ length old
+  pub owns : (s : ℕ) → s < n → ownAt new n s ≡ at old (ownsFrom n + s)
+  pub else : (k : ℕ) → (ownsFrom n ≤ k → k < ownsFrom n + n → ⊥) → at new k ≡ at old k
+  pub index : wanted ≡ true → Indexed mv mv' m (ownsFrom n) n old new
+
+-- The first move words are the sheet's moves, those to the own state without their rates, and behind them, where it is wanted, is the index of the
+-- moves by the state that they enter. The vector words are prepared for them at the sheet's uniformisation rate, with the rates to the own state and the marks of
 -- the labels in their places, and with 0 in the places of the ends too. All other words are as they were.
-pub record Stored (moves labels : Text) (words₀ words vectors₀ vectors : List ℕ) : Type 0 where
+pub record Stored (wanted : Bool) (moves labels : Text) (words₀ words vectors₀ vectors : List ℕ) : Type 0 where
   pub lines : (j : ℕ) → j < length (movesOf moves) → at words j ≡ wordAway (moveWord moves j)
-  pub index : IndexShows (chainOf (sheetOf moves labels)) (take (length (movesOf moves)) (drop (length (movesOf moves)) words)) vectors
+  pub index : wanted ≡ true → IndexShows (chainOf (sheetOf moves labels)) (take (length (movesOf moves)) (drop (length (movesOf moves)) words)) vectors
       (ownsFrom (statesOf labels)) (statesOf labels)
   pub words-same : length words ≡ length words₀
   pub words-beyond : (k : ℕ) → length (movesOf moves) + length (movesOf moves) ≤ k → at words k ≡ at words₀ k

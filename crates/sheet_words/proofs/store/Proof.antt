@@ -16,11 +16,8 @@ slice-aggregate-prepare c = search (needs, words-counted)
 prepare-requires : tie.Need-prepare-requires
 prepare-requires c κs = search (needs, prepare-asked)
 
-mul-index : tie.Need-mul-index
-mul-index c = search needs
-
-index-requires : tie.Need-index-requires
-index-requires c κs = search (needs, may-index-words)
+store-index-requires : tie.Need-store-index-requires
+store-index-requires c κs = search (needs, may-index-words)
 
 store-marks-requires : tie.Need-store-marks-requires
 store-marks-requires c κs =
@@ -28,7 +25,7 @@ store-marks-requires c κs =
     let prepared = indexed .before .before .before .before .before .before .before in
     let lines = prepared .before .before .before .before .before in
     let began = lines .before .before .before .before .before .before in
-    marks-asked (began .pre) (lines .store .ensures) (prepared .prepare .ensures) (indexed .index .ensures)
+    marks-asked (began .pre) (lines .store .ensures) (prepared .prepare .ensures) (indexed .store-index .ensures)
 
 same-length : tie.Need-same-length
 same-length c = search needs
@@ -47,8 +44,7 @@ store-spec =
     slice-relend-prefix-prepare
     slice-aggregate-prepare
     prepare-requires
-    mul-index
-    index-requires
+    store-index-requires
     store-marks-requires
     same-length
     same-length-2

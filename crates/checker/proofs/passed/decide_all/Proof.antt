@@ -1,5 +1,6 @@
 -- `decide_all` meets its contract. Assumes nothing.
 use Rattle.checker.proofs.ReportLaw.{decide-laws, store-asked, some, decide-asked, all-decided}
+use mathlib.Core.Path.{refl}
 use borrow.Author.Needs.{needs}
 use Rattle.checker.proofs.passed.decide_all.Statement.{statement}
 use Rattle.checker.proofs.passed.decide_all.Tie as tie
@@ -9,6 +10,9 @@ sub-root c = search (needs, some)
 
 mul-rows : tie.Need-mul-rows
 mul-rows c = search needs
+
+all-pass-requires : tie.Need-all-pass-requires
+all-pass-requires c κs = search needs
 
 store-requires : tie.Need-store-requires
 store-requires c κs = search (needs, store-asked)
@@ -41,7 +45,12 @@ slice-aggregate-decide-2 : tie.Need-slice-aggregate-decide-2
 slice-aggregate-decide-2 c = search (needs, decide-laws)
 
 decide-requires : tie.Need-decide-requires
-decide-requires c κs = search (needs, decide-asked)
+decide-requires c κs =
+    let cleared = c .before .before .before .before .before .before .before in
+    let stored = cleared .before .before .before .before .before .before in
+    let asked = stored .before .before .before in
+    let began = asked .before .before .before .before .before .before .before .before in
+    decide-asked (began .pre) (asked .all-pass .ensures) refl (stored .store .ensures) (cleared .clear .ensures)
 
 same-length : tie.Need-same-length
 same-length c = search needs
@@ -53,7 +62,13 @@ same-length-3 : tie.Need-same-length-3
 same-length-3 c = search needs
 
 returns : tie.Need-returns
-returns c = search (needs, all-decided)
+returns c =
+    let decided = c .before .before .before .before in
+    let cleared = decided .before .before .before .before .before .before .before .before in
+    let stored = cleared .before .before .before .before .before .before in
+    let asked = stored .before .before .before in
+    let began = asked .before .before .before .before .before .before .before .before in
+    all-decided (began .pre) (asked .all-pass .ensures) refl (stored .store .ensures) (cleared .clear .ensures) (decided .decide .ensures)
 
 pub decide-all-spec : {M : Type 1} → statement M
 decide-all-spec =
@@ -61,6 +76,7 @@ decide-all-spec =
     (tie.spec
     sub-root
     mul-rows
+    all-pass-requires
     store-requires
     clear-requires
     slice-aggregate-decide

@@ -20,6 +20,12 @@ enum-known-test c = search needs
 load-passes-requires : tie.Need-load-passes-requires
 load-passes-requires c κs = search needs
 
+enum-told-3 : tie.Need-enum-told-3
+enum-told-3 c = search needs
+
+no-search-requires : tie.Need-no-search-requires
+no-search-requires c κs = search needs
+
 returns : tie.Need-returns
 returns c = search needs
 
@@ -32,6 +38,9 @@ returns-3 c = rw (c .before .enum-told2 .given .1, lt-leb _ mostThreshold (c .if
 returns-4 : tie.Need-returns-4
 returns-4 c = rw (c .before .before .test .given .1) (c .load-passes .ensures)
 
+returns-5 : tie.Need-returns-5
+returns-5 c = rw (c .before .enum-told3 .given .1) (c .no-search .ensures)
+
 pub path-passes-spec : {M : Type 1} → statement M
 path-passes-spec =
     tie.close
@@ -41,7 +50,10 @@ path-passes-spec =
     hours-pass-requires
     enum-known-test
     load-passes-requires
+    enum-told-3
+    no-search-requires
     returns
     returns-2
     returns-3
-    returns-4)
+    returns-4
+    returns-5)

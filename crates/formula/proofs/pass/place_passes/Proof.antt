@@ -12,6 +12,9 @@ enum-told c = search needs
 enum-told-2 : tie.Need-enum-told-2
 enum-told-2 c = search needs
 
+enum-told-3 : tie.Need-enum-told-3
+enum-told-3 c = search needs
+
 returns : tie.Need-returns
 returns c = rw (c .before .test .given .1)
 
@@ -21,6 +24,18 @@ returns-2 c = search needs
 returns-3 : tie.Need-returns-3
 returns-3 c = search needs
 
+returns-4 : tie.Need-returns-4
+returns-4 c = search needs
+
 pub place-passes-spec : {M : Type 1} → statement M
 place-passes-spec =
-    tie.close (tie.spec enum-known-test enum-told enum-told-2 returns returns-2 returns-3)
+    tie.close
+    (tie.spec
+    enum-known-test
+    enum-told
+    enum-told-2
+    enum-told-3
+    returns
+    returns-2
+    returns-3
+    returns-4)
