@@ -2,29 +2,28 @@
 use mathlib.Core.Path.{_≡_, refl, ap, sym, _∙_}
 use mathlib.Core.Bool.{Bool, true, false, cond, not, _&&_, true≢false, false≢true, and-eq-true-iff}
 use mathlib.Core.List.{List}
-use Prim.Native.Nat.{ℕ, zero, suc, _+_, _-_, _≤_, _<_}
+use Prim.Native.Nat.{ℕ, _+_, _-_, _<_}
 use native.Mathlib.Omega.{arith}
-use lib.ListN.{length}
 use lib.Dec.{eqb, ltb}
-use borrow.Author.Tests.{eqb-true, eq-eqb, ne-eqb, ltb-true, ltb-false}
+use borrow.Author.Tests.{ne-eqb, ltb-true, ltb-false}
 use Rattle.csl.specs.Limits.{billion}
-use Rattle.csl.specs.Formula.{Comparison, PathOf, untilOf}
+use Rattle.csl.specs.Formula.{Comparison, untilOf}
 use Rattle.csl.specs.Chain.{Chain}
-use Rattle.csl.specs.Verdicts.{Verdict, No, Yes, Undecided, Decided, judged, asNo, least, marked}
+use Rattle.csl.specs.Verdicts.{Verdict, Decided, asNo, least, marked}
 use Rattle.csl.specs.Graph.{Leads, Tells}
 use Rattle.csl.specs.Lent.{verdictByte}
-use Rattle.csl.specs.Laws.Decided.{allDecided, all-decided, decided-all, all-decided-same}
+use Rattle.csl.specs.Laws.Decided.{allDecided, all-decided, decided-all}
 use Rattle.csl.specs.Laws.Verdicts.{as-no-mark}
 use Rattle.csl.specs.Laws.Graph.{SameOn, same-back, possible-same}
 use Rattle.csl.specs.Laws.Ruled.{tells-one, tells-same}
-use Rattle.csl.specs.Laws.Ruling.{isZeroOrOne, possibleVerdict, certainVerdict, movesVerdict, ruledVerdict}
+use Rattle.csl.specs.Laws.Ruling.{isZeroOrOne, possibleVerdict, certainVerdict, movesVerdict}
 use Rattle.csl.specs.Laws.Search.{leadsIn, leads-told}
 use Rattle.numbers.specs.Filled.{at, Table, table-at, table-rest, filled-as}
 use Rattle.bounds.specs.Found.{decidedPath, possiblePath, certainPath}
 use Rattle.verdicts.specs.Byte.{verdictAt, verdicts, byte-read}
 use Rattle.reachability.specs.Searched.{SearchAsked, Searched}
 use Rattle.verdict_rows.specs.Byte.{judgedByte, toldByte, nextByte}
-use Rattle.judgement.specs.Judged.{movesDecide, Hold, JudgeAsked, Judges, JudgeLeaves, AskAsked, Asks, AskLeaves, NextJudgeAsked, NextJudged}
+use Rattle.judgement.specs.Judged.{movesDecide, Hold, JudgeAsked, JudgeLeaves, AskAsked, Asks, AskLeaves, NextJudged}
 
 -- two tests, the one before the other
 pub none-decided : (p count : ℕ) (rows : List ℕ) {b : Bool} → b ≡ isZeroOrOne p → not b ≡ true → false ≡ movesDecide p count rows

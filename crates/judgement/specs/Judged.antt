@@ -8,7 +8,7 @@ use lib.Dec.{eqb, ltb}
 use Rattle.csl.specs.Limits.{billion, mostStates, mostMoves}
 use Rattle.csl.specs.Formula.{Comparison, PathOf, untilOf}
 use Rattle.csl.specs.Chain.{Chain}
-use Rattle.csl.specs.Verdicts.{Verdict, Decided, judged, asNo}
+use Rattle.csl.specs.Verdicts.{Verdict, judged, asNo}
 use Rattle.csl.specs.Lent.{verdictByte}
 use Rattle.csl.specs.Laws.Decided.{allDecided}
 use Rattle.csl.specs.Laws.Ruling.{isZeroOrOne, ruledVerdict}

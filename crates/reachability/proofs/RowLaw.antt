@@ -3,7 +3,6 @@ use mathlib.Core.Path.{_≡_, refl}
 use mathlib.Core.List.{List}
 use Prim.Native.Nat.{ℕ, _-_}
 use borrow.Author.Tests.{eq-eqb, ne-eqb}
-use Rattle.rate_matrix.specs.Halves.{rowEnd}
 use Rattle.vectors.specs.Places.{indexEndAt}
 use Rattle.reachability.specs.Asked.{rowBegin}
 

@@ -12,7 +12,6 @@ use Rattle.csl.specs.Graph.{Leads}
 use Rattle.numbers.specs.Filled.{at}
 use Rattle.verdicts.specs.Byte.{verdictAt}
 use Rattle.rate_matrix.specs.Packed.{wordTo}
-use Rattle.rate_matrix.specs.Halves.{rowEnd}
 use Rattle.incoming_moves.specs.Shown.{IndexShows}
 use Rattle.vectors.specs.Places.{valuesFrom, ownsFrom, indexEndAt, vectorLength}
 use Rattle.reachability.specs.Standing.{Stands, Went}

@@ -1,16 +1,16 @@
 -- A row that is looked through for an undecided state; and the byte of a `P` that the moves decide. Assumes nothing.
-use mathlib.Core.Path.{_≡_, refl, sym, ap, _∙_}
-use mathlib.Core.Bool.{Bool, true, false, cond, not, _&&_, false≢true, true≢false}
+use mathlib.Core.Path.{_≡_, refl, sym, _∙_}
+use mathlib.Core.Bool.{Bool, true, false, not, false≢true, true≢false}
 use mathlib.Core.List.{List}
 use Prim.Native.Nat.{ℕ, zero, suc, _+_, _≤_, _<_}
 use native.Mathlib.Omega.{arith}
 use native.Mathlib.Numerals.{add-one}
 use lib.Dec.{eqb, ltb}
-use lib.ListN.{length, getD}
+use lib.ListN.{length}
 use borrow.Author.Tests.{ne-eqb, lt-ltb}
 use Rattle.csl.specs.Limits.{billion}
 use Rattle.csl.specs.Formula.{Comparison}
-use Rattle.csl.specs.Verdicts.{Verdict, marked, asNo, Decided}
+use Rattle.csl.specs.Verdicts.{Verdict, marked}
 use Rattle.csl.specs.Lent.{verdictByte}
 use Rattle.csl.specs.Laws.Decided.{isDecided, allDecided, all-decided, decided-is}
 use Rattle.csl.specs.Laws.Ruling.{movesVerdict}

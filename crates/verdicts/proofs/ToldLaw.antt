@@ -1,10 +1,10 @@
 -- Which threshold a `P` has that the moves decide, and a verdict byte that is decided. Assumes nothing.
-use mathlib.Core.Path.{_≡_, refl, _∙_}
+use mathlib.Core.Path.{_≡_, refl}
 use mathlib.Core.Bool.{Bool, true, false, cond}
-use Prim.Native.Nat.{ℕ, zero, suc}
+use Prim.Native.Nat.{ℕ}
 use native.Mathlib.Omega.{arith}
 use lib.Dec.{eqb, leb}
-use borrow.Author.Tests.{eqb-true, eqb-false, ne-eqb, le-leb, lt-leb}
+use borrow.Author.Tests.{eqb-true, eqb-false, ne-eqb, lt-leb}
 use Rattle.csl.specs.Limits.{billion}
 use Rattle.csl.specs.Formula.{Comparison}
 use Rattle.csl.specs.Verdicts.{Verdict, No, Yes, Undecided}

@@ -1,11 +1,11 @@
 -- What the moves decide on a sheet of three states, of every report. Assumes nothing.
 use mathlib.Core.Path.{_≡_, refl, ap, _∙_}
 use mathlib.Core.Bool.{Bool, true, false, false≢true}
-use Prim.Native.Nat.{ℕ, zero, suc, _*_, _<_}
+use Prim.Native.Nat.{ℕ, zero, suc, _<_}
 use native.Mathlib.Omega.{arith}
 use lib.Dec.{eqb, ltb}
 use Rattle.csl.specs.Text.{Text, bytes}
-use Rattle.csl.specs.Limits.{billion, hour}
+use Rattle.csl.specs.Limits.{billion}
 use Rattle.csl.specs.Formula.{label, chance, until, nextMove, Less, AtMost, AtLeast, More}
 use Rattle.csl.specs.Chain.{Chain}
 use Rattle.csl.specs.Verdicts.{Verdict, No, Yes, Undecided, marked, negation, asNo, least}

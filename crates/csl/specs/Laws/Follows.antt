@@ -1,7 +1,7 @@
 -- What the rule of the verdict gives, one line for each kind of path: it says of the probability what the verdict says, it is the rule of
 -- sides where the interval decides, and it leaves no choice. Assumes nothing.
-use mathlib.Core.Path.{_≡_, sym, _∙_}
-use mathlib.Core.Bool.{Bool, true}
+use mathlib.Core.Path.{_≡_, _∙_}
+use mathlib.Core.Bool.{Bool}
 use mathlib.Core.Logic.{_⊎_}
 use Prim.Native.Nat.{ℕ, _≤_, _<_}
 use native.Mathlib.Omega.{arith}
@@ -9,14 +9,14 @@ use Rattle.csl.specs.Limits.{billion}
 use Rattle.csl.specs.Formula.{Comparison, PathOf, untilOf, nextOf}
 use Rattle.csl.specs.Chain.{Chain}
 use Rattle.csl.specs.Limit.{Holds}
-use Rattle.csl.specs.Verdicts.{Verdict, Reading, Decided, judged, least, Sides}
+use Rattle.csl.specs.Verdicts.{Verdict, Decided, judged, least, Sides}
 use Rattle.csl.specs.Graph.{UntilPossible, UntilCertain, Enters, EntersOnly, AllDecided}
 use Rattle.csl.specs.Path.{Reads, reads-until, reads-next, valueAt, FollowsAt, SidesAt, DecidedIn}
-use Rattle.csl.specs.Laws.Next.{next-is, next-le}
+use Rattle.csl.specs.Laws.Next.{next-le}
 use Rattle.csl.specs.Laws.Enclosure.{Encloses, value-is}
 use Rattle.csl.specs.Laws.Sides.{judged-sides, one-verdict}
 use Rattle.csl.specs.Laws.Decided.{Either, decided-or-not, both-or-not, one-reading}
-use Rattle.csl.specs.Laws.Judging.{Says, Settles, settles}
+use Rattle.csl.specs.Laws.Judging.{Settles, settles}
 use Rattle.csl.specs.Laws.Graph.{limit-low, until-some, until-none, until-full, until-part, until-within, next-some, next-none, next-full, next-part}
 use Rattle.csl.specs.Laws.Graph.{SameOn, same-back, possible-same, enters-same, only-same}
 use Rattle.csl.specs.Laws.Ruled.{which, ruled-says, ruled-as, ruled-one, ruled-decided}

@@ -1,14 +1,13 @@
 -- What the moves say of a path is what its probability is: possible is more than 0, and certain is 1. Assumes nothing.
 use mathlib.Core.Path.{_≡_, refl, sym, ap, _∙_}
 use mathlib.Core.Bool.{Bool, true, false, cond}
-use mathlib.Core.Logic.{_⊎_, inl, inr, ⊎-elim}
-use Prim.Native.Nat.{ℕ, zero, suc, _+_, _*_, _≤_, _<_}
+use mathlib.Core.Logic.{_⊎_, ⊎-elim}
+use Prim.Native.Nat.{ℕ, zero, suc, _*_, _≤_, _<_}
 use native.Mathlib.Omega.{arith}
 use native.Mathlib.Nat.{mul-le-mul-right}
 use lib.Dec.{eqb, ltb}
 use borrow.Author.Tests.{eqb-false, ltb-true, ltb-false, ne-eqb}
-use Rattle.csl.specs.Limits.{billion}
-use Rattle.csl.specs.Formula.{Comparison, Less, AtMost, AtLeast, More}
+use Rattle.csl.specs.Formula.{Less, AtMost, AtLeast, More}
 use Rattle.csl.specs.Fraction.{Fraction, frac, Same}
 use Rattle.csl.specs.Chain.{Chain, sumTo, topRate, load}
 use Rattle.csl.specs.Phase.{bit, stepValue}

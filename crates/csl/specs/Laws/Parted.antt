@@ -14,7 +14,7 @@ use Rattle.csl.specs.Until.{untilPhase, untilQuotient}
 use Rattle.csl.specs.Laws.Fraction.{below-trans, sum-is}
 use Rattle.csl.specs.Laws.Steps.{step-le, divisor-some}
 use Rattle.csl.specs.Laws.Quotient.{weight-is, weights-some, until-starts}
-use Rattle.csl.specs.Laws.Tail.{Light, light-from, later}
+use Rattle.csl.specs.Laws.Tail.{light-from, later}
 use Rattle.csl.specs.Laws.Left.{leftOf, Shares, quotients-share}
 use Rattle.csl.specs.Laws.Led.{Reached}
 

@@ -1,11 +1,11 @@
 -- The verdict of a `P`, computed: by the moves where they decide, else by the interval; and that it is the one that follows. Assumes nothing.
-use mathlib.Core.Path.{_≡_, refl, sym}
-use mathlib.Core.Bool.{Bool, true, false, cond, true≢false, false≢true}
-use mathlib.Core.Logic.{_⊎_, inl, inr}
+use mathlib.Core.Path.{_≡_, refl}
+use mathlib.Core.Bool.{Bool, true, false, cond}
+use mathlib.Core.Logic.{inl, inr}
 use Prim.Native.Nat.{ℕ}
 use native.Mathlib.Omega.{arith}
 use lib.Dec.{eqb}
-use borrow.Author.Tests.{eqb-true, eqb-false, eq-eqb}
+use borrow.Author.Tests.{eqb-true, eqb-false}
 use Rattle.csl.specs.Limits.{billion}
 use Rattle.csl.specs.Formula.{Comparison, Less, AtMost, AtLeast, More}
 use Rattle.csl.specs.Verdicts.{Verdict, No, Yes, marked, negation}

@@ -1,5 +1,5 @@
 -- `clear_all` meets its contract. Assumes nothing.
-use Rattle.checker.proofs.ReportLaw.{all-cleared, rows-fit}
+use Rattle.checker.proofs.ReportLaw.{all-cleared}
 use borrow.Author.Needs.{needs}
 use Rattle.checker.proofs.passed.clear_all.Statement.{statement}
 use Rattle.checker.proofs.passed.clear_all.Tie as tie
