@@ -22,6 +22,7 @@ use Rattle.csl.specs.Report.{Reported, lowerOf as plainLower, upperOf as plainU
 use Rattle.csl.specs.Refusal.{inLoad}
 use Rattle.csl.specs.Laws.NextEnds.{ends-next}
 use Rattle.csl.specs.Laws.Decided.{allDecided, all-decided, decided-all}
+use Rattle.csl.specs.Laws.Ruled.{tells-itself}
 use Rattle.csl.specs.Laws.Ruling.{ruledVerdict, verdict-ruled}
 use Rattle.csl.specs.Laws.Search.{leadsIn, leads-told}
 use Rattle.csl.specs.Laws.NextGraph.{upper-tells, lower-tells}
@@ -129,10 +130,6 @@ reportUpper c (both a b) s = plainUpper (found c (both a b) s)
 reportUpper c (chance r p w) s = upperPath c (foundIn c w) s
 
 -- of an until, the Booleans tell what the moves say
-tells-itself : (b : Bool) → Tells (marked b) (b ≡ true)
-tells-itself true = refl
-tells-itself false = false≢true
-
 until-told : (c : Chain) (t : ℕ) (x y : ℕ → Bool) (s : ℕ) → s < c .states
     → Tells (marked (cond (eqb t 0) (y s) (leadsIn c x y (c .states) s))) (UntilPossible c t x y s)
 until-told c zero x y s l = tells-itself (y s)

@@ -19,13 +19,9 @@ use Rattle.csl.specs.Laws.Computing.{computing}
 use Rattle.csl.specs.Laws.Verdicts.{as-no-mark}
 use Rattle.csl.specs.Laws.Readings.{marks-decided}
 use Rattle.csl.specs.Laws.Graph.{SameOn, same-back, possible-same, enters-same, only-same}
-use Rattle.csl.specs.Laws.Ruled.{tells-same, tells-one}
+use Rattle.csl.specs.Laws.Ruled.{tells-itself, tells-same, tells-one}
 use Rattle.csl.specs.Laws.Search.{anyBelow, grown, leadsIn, leads-told}
 use Rattle.csl.specs.Laws.NextGraph.{upper-tells, lower-tells}
-
-tells-mark : (b : Bool) → Tells (marked b) (b ≡ true)
-tells-mark true = refl
-tells-mark false = false≢true
 
 -- what tells the opposite is the opposite
 opposite-told : (A : Type 0) (v w : Verdict) → Tells (negation v) A → Tells w A → v ≡ negation w
@@ -57,7 +53,7 @@ module _ (c : Chain) (x y : Text) (lower upper : ℕ → ℕ) (v : ℕ → Verdi
   in-time t k = tells-one (Leads c (c .mark x) (c .mark y) s) _ _ (possible (suc t) k) (leads-told c (c .mark x) (c .mark y) s l)
 
   at-once : Reported c (chance More 0 (until 0 (label x) (label y))) lower upper v → v s ≡ marked (c .mark y s)
-  at-once k = tells-one (c .mark y s ≡ true) _ _ (possible 0 k) (tells-mark (c .mark y s))
+  at-once k = tells-one (c .mark y s ≡ true) _ _ (possible 0 k) (tells-itself (c .mark y s))
 
   -- `>= 1000000000` of one
   certain : (t : ℕ) → Reported c (chance AtLeast billion (until t (label x) (label y))) lower upper v → v s ≡ marked (c .mark y s)
@@ -65,7 +61,7 @@ module _ (c : Chain) (x y : Text) (lower upper : ℕ → ℕ) (v : ℕ → Verdi
       let second = least-marks c y (k .second) (k .second-backed) in
       tells-one (least (k .second) s ≡ true) _ _
       (k .keeps .verdict s l .at-1 (marks-decided c (k .first) (c .mark x) (k .first-backed), marks-decided c (k .second) (c .mark y) (k .second-backed)) refl)
-      (rw (second s l) (tells-mark (c .mark y s)))
+      (rw (second s l) (tells-itself (c .mark y s)))
 
   -- `<= 0` and `< 1000000000` of a next move over a label
   abbrev marks : ℕ → Verdict

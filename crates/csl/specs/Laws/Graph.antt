@@ -17,6 +17,7 @@ use Rattle.csl.specs.Until.{untilPhase, untilQuotient}
 use Rattle.csl.specs.Next.{nextExitRate, enteringRate, nextFraction}
 use Rattle.csl.specs.Laws.Sum.{sum-term, sum-none, sum-cong, sum-less}
 use Rattle.csl.specs.Laws.Quotient.{until-le}
+use Rattle.csl.specs.Laws.Next.{into-le}
 use Rattle.csl.specs.Laws.Point.{quotient-nil}
 use Rattle.csl.specs.Laws.PointQuotients.{until-one, until-still}
 use Rattle.csl.specs.Laws.Led.{leads-reached, unled-none, not-true, none-or-some}
@@ -63,10 +64,6 @@ module _ (c : Chain) (x y : ℕ → Bool) (s : ℕ) (l : s < c .states) where
   until-within t = limit-high _ (λ n. until-le c t x y s n l)
 
 -- next
-into-le : (b : Bool) (r : ℕ) → cond b r 0 ≤ r
-into-le true r = omega arith
-into-le false r = omega arith
-
 module _ (c : Chain) (x : ℕ → Bool) (s : ℕ) where
   abbrev into : ℕ → ℕ
   into t = cond (x t) (c .rate s t) 0

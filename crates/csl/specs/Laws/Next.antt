@@ -15,7 +15,7 @@ use Rattle.csl.specs.Laws.Sum.{sum-le}
 use Rattle.csl.specs.Laws.Fraction.{Under}
 use Rattle.csl.specs.Laws.Quotient.{Implies, as-no-least, as-yes-greatest}
 
-into-le : (b : Bool) (r : ℕ) → cond b r 0 ≤ r
+pub into-le : (b : Bool) (r : ℕ) → cond b r 0 ≤ r
 into-le true r = omega arith
 into-le false r = omega arith
 

@@ -49,11 +49,11 @@ quotient-rises l v w h n =
 abbrev pub Implies : ℕ → (ℕ → Bool) → (ℕ → Bool) → Type 0
 Implies n a b = (s : ℕ) → s < n → a s ≡ true → b s ≡ true
 
-bit-le : (a : Bool) → bit a ≤ 1
+pub bit-le : (a : Bool) → bit a ≤ 1
 bit-le true = omega arith
 bit-le false = omega arith
 
-bit-rises : (a b : Bool) → (a ≡ true → b ≡ true) → bit a ≤ bit b
+pub bit-rises : (a b : Bool) → (a ≡ true → b ≡ true) → bit a ≤ bit b
 bit-rises true b h = rw (h refl) (omega arith)
 bit-rises false b h = omega arith
 

@@ -1,7 +1,7 @@
 -- The rule of a verdict: which one holds, what it says of the value, that it leaves no choice, and that the moves leave nothing undecided.
 -- Assumes nothing.
 use mathlib.Core.Path.{_≡_, refl, sym, _∙_}
-use mathlib.Core.Bool.{Bool, true, false}
+use mathlib.Core.Bool.{Bool, true, false, false≢true}
 use mathlib.Core.Logic.{_⊎_, inl, inr}
 use Prim.Native.Nat.{ℕ, _<_}
 use native.Mathlib.Omega.{arith}
@@ -9,7 +9,7 @@ use lib.Dec.{eqb}
 use borrow.Author.Tests.{eqb-true, eqb-false}
 use Rattle.csl.specs.Limits.{billion}
 use Rattle.csl.specs.Formula.{Comparison, Less, AtMost, AtLeast, More}
-use Rattle.csl.specs.Verdicts.{Verdict, No, Yes, Undecided, negation, Decided}
+use Rattle.csl.specs.Verdicts.{Verdict, No, Yes, Undecided, marked, negation, Decided}
 use Rattle.csl.specs.Graph.{Tells, ByPossible, ByCertain, Ruled}
 use Rattle.csl.specs.Laws.Decided.{Either}
 use Rattle.csl.specs.Laws.Judging.{Says}
@@ -80,6 +80,11 @@ tells-decided : (A : Type 0) (v : Verdict) → Tells v A → Decided v
 tells-decided A No h = tt
 tells-decided A Yes h = tt
 tells-decided A Undecided h = h
+
+-- a mark tells of itself
+pub tells-itself : (b : Bool) → Tells (marked b) (b ≡ true)
+tells-itself true = refl
+tells-itself false = false≢true
 
 pub tells-same : (A B : Type 0) (v : Verdict) → (A → B) → (B → A) → Tells v A → Tells v B
 tells-same A B No f g h = λ b. h (g b)

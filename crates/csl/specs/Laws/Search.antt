@@ -13,6 +13,7 @@ use Rattle.csl.specs.Phase.{bit}
 use Rattle.csl.specs.Verdicts.{marked}
 use Rattle.csl.specs.Graph.{Leads, arrived, moves, Tells}
 use Rattle.csl.specs.Laws.Sum.{sum-less}
+use Rattle.csl.specs.Laws.Quotient.{bit-le, bit-rises}
 
 -- p holds of some number below n
 unfoldable pub anyBelow : (ℕ → Bool) → ℕ → Bool
@@ -146,10 +147,6 @@ module _ (c : Chain) (x y : ℕ → Bool) where
   abbrev count : ℕ → ℕ
   count k = sumTo (λ s. bit (leadsIn c x y k s)) (c .states)
 
-  bit-rises : (a b : Bool) → (a ≡ true → b ≡ true) → bit a ≤ bit b
-  bit-rises true b h = rw (h refl) (omega arith)
-  bit-rises false b h = omega arith
-
   -- each round finds one more or changes nothing
   grows-or-stays : (k : ℕ) → (count k < count (suc k)) ⊎ Within (suc k) k
   grows-or-stays k = go (ltb (count k) (count (suc k))) refl
@@ -187,10 +184,6 @@ module _ (c : Chain) (x y : ℕ → Bool) where
   ones zero = refl
   ones (suc n) = omega (arith, ones n)
 
-  bit-most : (b : Bool) → bit b ≤ 1
-  bit-most true = omega arith
-  bit-most false = omega arith
-
   -- as many rounds as there are states find all
   rounds-closed : Within (suc (c .states)) (c .states)
   rounds-closed =
@@ -207,7 +200,7 @@ module _ (c : Chain) (x y : ℕ → Bool) where
             h,
             ones (c .states),
             sum-less (λ t. bit (leadsIn c x y (c .states) t)) (λ t. 1) s (c .states) l
-                (λ t m. bit-most (leadsIn c x y (c .states) t)) d,
+                (λ t m. bit-le (leadsIn c x y (c .states) t)) d,
           ))
 
       full : c .states ≤ count (c .states) → Within (suc (c .states)) (c .states)
