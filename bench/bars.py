@@ -7,6 +7,7 @@ from ordering import at_most, out_of_order
 from reckoning.chain import depth
 from restarts import exact
 from searching import for_each, share, share_with_index
+from two_phases import over_doubles as two_over_doubles
 
 FEW_MOVES = 3                           # with fewer moves out of a state than this a sheet is sparse
 MOST_OVER_DOUBLES = {"dense": 1.6, "sparse": 2.4}
@@ -76,6 +77,14 @@ def of_answers(rows):
     yield Bar(f"no interval wider than {MOST_WIDTH} billionths", f"{widest}", widest <= MOST_WIDTH, True)
 
 
+def of_two_phases(taken):
+    """Two phases against the doubles, as a goal, and that both compute the same."""
+    ratio, most = two_over_doubles(taken), MOST_OVER_DOUBLES[shape(taken)]
+    yield Bar(f"two phases at most {most} times the doubles", f"{ratio:.2f}", ratio <= most, False)
+    agree = doubles_agree(taken)
+    yield Bar("answers of doubles within the intervals of two phases", "yes" if agree else "no", agree, True)
+
+
 def of_restarts(asked):
     """That next moves are exact, and that restarts change no until."""
     (*nexts, plain, restarted) = asked
@@ -113,11 +122,11 @@ def of_searches(searches, largest):
               f"{min(each):.2f} to {max(each):.2f} ns", max(each) <= MOST_APART * min(each), False)
 
 
-def bars(rows, others, footprints, asked, orderings, searches):
+def bars(rows, others, footprints, asked, two_phases, orderings, searches):
     """All bars; `others` are rows of other shapes, where the whole job is not held against its until, `asked` those with restarts."""
     every = rows + others
     return [*over_doubles(every), *under_balls(every), *over_untils(rows), *of_orders(orderings, rows), *of_searches(searches, rows[-1].sheet),
-            *of_footprints(footprints), *of_answers(every), *of_restarts(asked)]
+            *of_footprints(footprints), *of_answers(every), *of_restarts(asked), *of_two_phases(two_phases)]
 
 
 def told(bar):

@@ -1,14 +1,16 @@
-/* The textbook uniformisation of `U hours tt dead` in doubles: what the engine is measured against. It promises nothing on its errors.
+/* The textbook uniformisation of `U last tt dead` or `V first last tt dead` in doubles: what the engine is measured against. It promises
+ * nothing on its errors.
  *
- * usage: doubles FOLDER HOURS MILLISECONDS
- * Prints the least time of the loop in nanoseconds, then the quotient of each state at the depth. */
+ * usage: doubles FOLDER [FIRST] LAST MILLISECONDS
+ * Prints the least time of the loops in nanoseconds, then the quotient of each state at the depth, or at the pair of depths. */
 #include "clock.h"
 #include "sheet.h"
 
 #include <stdio.h>
 #include <stdlib.h>
 
-/* The chain in rows of chances, and the vectors of the loop. A dead state keeps its value: it stays with chance 1 and its row is empty. */
+/* A phase: the chain in rows of chances, and the vectors of its loop. In an until a dead state keeps its value: it stays with chance 1 and its
+ * row is empty. */
 struct loop {
     int states;
     int depth;
@@ -22,18 +24,25 @@ struct loop {
     double sums[STATES];
 };
 
-/* Lays out the chances of the moves and of staying put. */
-static void prepare(struct loop *loop, const struct sheet *sheet, long hours) {
+/* Until is the later phase alone; between two times the earlier one starts from its quotients. */
+struct loops {
+    struct loop later, earlier;
+    int phases;
+};
+
+/* Lays out the chances of the moves and of staying put; where `held` the dead states keep their values. */
+static void prepare(struct loop *loop, const struct sheet *sheet, long hours, int held) {
     double q = (double)sheet->top;
     int moves = 0;
     loop->states = sheet->states;
     loop->depth = sheet_depth(sheet, hours);
     loop->load = q * (double)hours / 1e6;
     for (int s = 0; s < sheet->states; s++) {
+        int kept = held && sheet->dead[s];
         loop->start[s] = sheet->dead[s];
-        loop->stay[s] = sheet->dead[s] ? 1 : (q - (double)sheet->exit[s]) / q;
+        loop->stay[s] = kept ? 1 : (q - (double)sheet->exit[s]) / q;
         loop->begin[s] = moves;
-        for (int j = sheet->begin[s]; !sheet->dead[s] && j < sheet->begin[s + 1]; j++) {
+        for (int j = sheet->begin[s]; !kept && j < sheet->begin[s + 1]; j++) {
             loop->to[moves] = sheet->to[j];
             loop->chance[moves++] = (double)sheet->rate[j] / q;
         }
@@ -59,9 +68,8 @@ static void step(struct loop *loop, const double *restrict values, double *restr
     }
 }
 
-/* The measured work: the sums over steps 0 to the depth, over the total of the weights. */
-static void run(void *data) {
-    struct loop *loop = data;
+/* One phase: the sums over steps 0 to the depth, over the total of the weights. Not put into its caller, so that both phases have the same code. */
+__attribute__((noinline)) static void run_phase(struct loop *loop) {
     double weight = 1, total = 1;
     for (int s = 0; s < loop->states; s++)
         loop->vectors[0][s] = loop->sums[s] = loop->start[s];
@@ -74,18 +82,32 @@ static void run(void *data) {
         loop->sums[s] /= total;
 }
 
-/* Prepares the loop, takes its time and prints the quotients. */
+/* The measured work. The first operand, `tt`, holds everywhere, so that the earlier phase starts from all of the later one's quotients. */
+static void run(void *data) {
+    struct loops *loops = data;
+    run_phase(&loops->later);
+    if (loops->phases == 2) {
+        for (int s = 0; s < loops->later.states; s++)
+            loops->earlier.start[s] = loops->later.sums[s];
+        run_phase(&loops->earlier);
+    }
+}
+
+/* Prepares the loops, takes their time and prints the quotients. */
 int main(int count, char **words) {
     static struct sheet sheet;
-    static struct loop loop;
-    if (count != 4) {
-        fprintf(stderr, "usage: doubles FOLDER HOURS MILLISECONDS\n");
+    static struct loops loops;
+    if (count != 4 && count != 5) {
+        fprintf(stderr, "usage: doubles FOLDER [FIRST] LAST MILLISECONDS\n");
         return 2;
     }
+    loops.phases = count - 3;
+    long first = loops.phases == 2 ? atol(words[2]) : 0, last = atol(words[count - 2]);
     sheet_read(&sheet, words[1]);
-    prepare(&loop, &sheet, atol(words[2]));
-    printf("%.0f\n", least_ns(run, &loop, atof(words[3])));
-    for (int s = 0; s < loop.states; s++)
-        printf("%.17g\n", loop.sums[s]);
+    prepare(&loops.later, &sheet, last - first, 1);
+    prepare(&loops.earlier, &sheet, first, 0);
+    printf("%.0f\n", least_ns(run, &loops, atof(words[count - 1])));
+    for (int s = 0; s < sheet.states; s++)
+        printf("%.17g\n", (loops.phases == 2 ? &loops.earlier : &loops.later)->sums[s]);
     return 0;
 }

@@ -19,7 +19,7 @@ struct sheet {
 /* Reads moves.txt and labels.txt of a folder; ends the program with a message where they are not as the bench writes them. */
 void sheet_read(struct sheet *sheet, const char *folder);
 
-/* The depth of an until over so many hours. */
+/* The depth of a phase over so many hours. */
 int sheet_depth(const struct sheet *sheet, long hours);
 
 #endif

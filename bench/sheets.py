@@ -84,6 +84,11 @@ def until(hours):
     return f"P >= 500000000 U {hours} tt dead"
 
 
+def between(first, last):
+    """Is a state dead at some time between these hours? No state is undecided below it."""
+    return f"P >= 500000000 V {first} {last} tt dead"
+
+
 def more_than(threshold, hours):
     """Does a state come to a dead one within so many hours with more than so many chances in a billion?"""
     return f"P > {threshold} U {hours} tt dead"

@@ -3,10 +3,12 @@ from growth import slope, steps_made, two_terms
 from measuring import balls_agree, doubles_agree, width
 from ordering import at_most, out_of_order
 from searching import for_each, share as share_of_until, share_with_index
+from two_phases import engine, over_doubles, over_one
 
 HEADS = ["states", "moves", "depth", "doubles", "Arb", "Arb dot", "engine", "again", "reading", "job",
          "eng/dbl", "Arb/eng", "dot/eng", "job/until", "3 untils", "widest", "dbl in", "Arb in"]
 RESTART_HEADS = ["formula", "states", "moves", "reading", "job", "job - reading", "ns for each move"]
+PHASE_HEADS = ["formula", "states", "moves", "depth", "doubles", "engine", "eng/dbl", "over one", "dbl over one", "widest", "dbl in"]
 ORDER_HEADS = ["states", "falling", "rising", "drawn", "equal", "out of order", "after tests"]
 SEARCH_HEADS = ["states", "moves", "furthest", "until", "search", "of until", "ns for each", "with index", "of until"]
 GROWTH_HEADS = ["states", "moves", "depth", "doubles", "Arb", "engine", "whole job"]
@@ -91,6 +93,18 @@ def restart_line(asked):
 def restart_table(rows):
     """Times of the next move and of an until, on a sheet and on the same sheet with restarts."""
     return laid_out(RESTART_HEADS, map(restart_line, rows))
+
+
+def phase_line(taken):
+    """A row of the table of two phases."""
+    return [taken.formula, *map(str, (taken.sheet.states, taken.sheet.moves, taken.depth)), milliseconds(taken.doubles), milliseconds(engine(taken)),
+            f"{over_doubles(taken):.2f}", f"{over_one(taken):.2f}", f"{taken.doubles / taken.one_doubles:.2f}", str(width(taken)),
+            WORDS[doubles_agree(taken)]]
+
+
+def phase_table(rows):
+    """Times of an until between two times, in two phases."""
+    return laid_out(PHASE_HEADS, map(phase_line, rows))
 
 
 def order_line(ordering):

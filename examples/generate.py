@@ -102,9 +102,9 @@ def gun_parts():
     return *joined(parts, [(shock, 250)]), labels
 
 
-def gun_string():
-    """The gun string, and whether depth is lost in time."""
-    return Sheet(*gun_parts(), "P <= 10000000 U 8.25 power lost", told_parts)
+def gun_string(formula):
+    """The gun string with a question."""
+    return Sheet(*gun_parts(), formula, told_parts)
 
 
 def first_fault():
@@ -207,8 +207,9 @@ def walk(depth, left, formula):
 
 SHEETS = {
     "small": small(),
-    "gun-string": gun_string(),
+    "gun-string": gun_string("P <= 10000000 U 8.25 power lost"),
     "first-fault": first_fault(),
+    "not-before-settled": gun_string("P >= 990000000 V 2 8.25 power & collar gamma"),
     "redundant-string": redundant_string("P <= 150000000 U 72 & power modem P > 2000000 U 8 & power modem ! depth"),
     "whole-again": redundant_string("P > 0 U 0.25 & power modem whole"),
     "tandem-2": tandem(2, "P < 50000000 U 2 tt full"),

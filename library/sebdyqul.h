@@ -33,10 +33,11 @@ enum sebdyqul_verdict { SEBDYQUL_NO = 0, SEBDYQUL_YES = 1, SEBDYQUL_UNDECIDED = 
  *
  * Answers 0 where the job is accepted. Then `lower`, `upper` (billionths) and `verdicts` hold the report in their first n elements, `order`
  * holds in its first n the state numbers, the worst first: by falling lower end, equal ones by rising number. `*depth` is the depth that the
- * report's lines show (0 where the outermost node is no until), and the named lengths of `words`, `vectors` and `marks` hold 0; nothing
- * beyond them has changed.
+ * report's lines show (0 where the outermost node is no until; of one between two times, `V`, the sum over its two phases), and the named
+ * lengths of `words`, `vectors` and `marks` hold 0; nothing beyond them has changed.
  *
- * Answers with the number of the refusal, 1 to 15 but never 7, otherwise. Then nothing has changed. */
+ * Answers with the number of the refusal, 1 to 16 but never 7, otherwise; 16, where the first time of a `V` exceeds the second, is tested
+ * after 13 and before 14. Then nothing has changed. */
 uint64_t sebdyqul_check(
     const uint8_t *moves, size_t moves_length,
     const uint8_t *labels, size_t labels_length,

@@ -30,9 +30,10 @@ pub struct Lent<'a> {
 #[derive(Clone, Copy, Debug, PartialEq, Eq)]
 pub enum Answer {
     /// The report is in the first n elements of `lower`, `upper` and `verdicts`, and in those of `order` are the state numbers, the worst
-    /// first: by falling lower end, equal ones by rising number. The report's lines show this depth, 0 where the outermost node is no until.
+    /// first: by falling lower end, equal ones by rising number. The report's lines show this depth: 0 where the outermost node is no until,
+    /// and of one between two times, `V`, the sum over its two phases.
     Accepted { depth: u64 },
-    /// The number of the refusal, 1 to 15 but never 7. What was lent is as it was.
+    /// The number of the refusal, 1 to 16 but never 7; 16 is a `V` whose first time exceeds the second. What was lent is as it was.
     Refused(u64),
 }
 

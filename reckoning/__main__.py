@@ -9,8 +9,7 @@ DIR holds moves.txt, labels.txt and formula.txt; a file that cannot be opened co
 import sys
 from pathlib import Path
 
-from .backing import TooMany
-from .judge import allowed_ends, judge
+from .judge import CANNOT_TELL, allowed_ends, judge
 from .refusal import refusal
 
 FILES = ("moves.txt", "labels.txt", "formula.txt")
@@ -60,7 +59,7 @@ def main(arguments):
         return 2
     try:
         return COMMANDS[arguments[0]](read_texts(arguments[1]))
-    except TooMany as reason:
+    except CANNOT_TELL as reason:
         print(f"cannot tell: {reason}")
         return 2
 

@@ -64,22 +64,28 @@ class Run:
     def quotient(self, s):
         return Fraction(self.sums[s], self.total)
 
-    def enclosure(self, s):
-        """For an until, from D on: the limit lies from the first to the second fraction.
+    def quotients(self):
+        """The quotient of each state."""
+        return [self.quotient(s) for s in range(self.chain.states)]
 
-        The quotients never fall, see `bracket`. The weights after this one add to at most this one
-        and no value is above 1, so no later quotient exceeds (A + w) / (W + w).
+    def enclosure(self, s):
+        """From D on no later quotient is outside these two fractions.
+
+        The weights after this one add to at most this one, no value is below 0 and none above 1. So no later quotient
+        is below A / (W + w), and none exceeds (A + w) / (W + w).
         """
         more = self.weight
-        return Fraction(self.sums[s], self.total), Fraction(self.sums[s] + more, self.total + more)
+        return Fraction(self.sums[s], self.total + more), Fraction(self.sums[s] + more, self.total + more)
 
 
-def floor_billionths(top, bottom):
-    return top * BILLION // bottom
+def floor_billionths(chance):
+    """A fraction in whole billionths, rounded down."""
+    return chance.numerator * BILLION // chance.denominator
 
 
-def ceil_billionths(top, bottom):
-    return -(-top * BILLION // bottom)
+def ceil_billionths(chance):
+    """A fraction in whole billionths, rounded up."""
+    return -(-chance.numerator * BILLION // chance.denominator)
 
 
 def reaching(chain, first, second):
@@ -115,7 +121,7 @@ def bracket(chain, first, second, hundredths):
         return [Bounds(BILLION * value, BILLION * value) for value in run.phase.start]
     run.to(depth(chain.load(hundredths)))
     open_states = reaching(chain, first, second)
-    downs = [floor_billionths(top, run.total) for top in run.sums]
+    downs = list(map(floor_billionths, run.quotients()))
     ups = downs[:]
     while open_states:
         for s in open_states:
@@ -127,6 +133,5 @@ def bracket(chain, first, second, hundredths):
 
 def settled_ceil(run, s):
     """The limit of a state that can reach the second operand, rounded up; None if still open."""
-    low = max(1, ceil_billionths(run.sums[s], run.total))
-    high = ceil_billionths(run.sums[s] + run.weight, run.total + run.weight)
+    low, high = max(1, ceil_billionths(run.quotient(s))), ceil_billionths(run.enclosure(s)[1])
     return high if low == high else None

@@ -1,6 +1,6 @@
-"""What the chain means: exit rates, q, load, depth, a phase's step values and quotients, and the chance of the next move.
+"""What the chain means: exit rates, q, load, depth, a phase's step values and quotients, two phases, and the chance of the next move.
 
-Written as the paper has it, in fractions. `bracket.py` reckons the same faster.
+Written as the paper has it, in fractions. `bracket.py` and `pairs.py` reckon the same faster.
 """
 
 from dataclasses import dataclass
@@ -47,7 +47,7 @@ class Chain:
         return max(self.exits)
 
     def load(self, hundredths):
-        """The load of an until over so many hundredths of an hour."""
+        """The load of a phase over so many hundredths of an hour."""
         return Fraction(self.q * hundredths, RATE_HUNDREDTHS)
 
 
@@ -71,6 +71,16 @@ def until(first, second, hundredths):
     return Phase(start=tuple(int(second[s]) for s in states),
                  ones=frozenset(s for s in states if second[s]),
                  zeros=frozenset(s for s in states if not first[s] and not second[s]),
+                 hundredths=hundredths)
+
+
+def earlier(first, quotients, hundredths):
+    """The earlier of two phases: it "starts from the later one's quotient where the first operand holds and 0 elsewhere, holds 0 where that
+    operand fails, and steps everywhere else, states of the second operand included".
+    """
+    return Phase(start=tuple(value if holds else 0 for holds, value in zip(first, quotients)),
+                 ones=frozenset(),
+                 zeros=frozenset(s for s, holds in enumerate(first) if not holds),
                  hundredths=hundredths)
 
 
@@ -111,6 +121,12 @@ def quotients(chain, phase, last):
         tops = [top + weight * value for top, value in zip(tops, values)]
         total += weight
     return [top / total for top in tops]
+
+
+def pair_quotients(chain, first, second, phases, depths):
+    """The exact quotient of each state in two phases, for one pair of depths; of both pairs the earlier phase's comes first."""
+    start = quotients(chain, until(first, second, phases[1]), depths[1])
+    return quotients(chain, earlier(first, start, phases[0]), depths[0])
 
 
 def next_chances(chain, holds):

@@ -7,6 +7,7 @@ from .chain import depth, next_chances
 from .formula import Next
 from .graph import decided
 from .limits import BILLION, NEXT_DEPTH, NEXT_WIDTH, WIDTH_FACTOR
+from .pairs import bracket_pairs
 from .verdict import COMPARISON, NO, UNDECIDED, YES, negate, of_ends
 
 # All pairs with lower from `lower[0]` to `lower[1]`, upper from `upper[0]` to `upper[1]`, and
@@ -25,7 +26,8 @@ class Rules:
         self.known = {}
 
     def depth(self, path):
-        return NEXT_DEPTH if isinstance(path, Next) else depth(self.chain.load(path.hundredths))
+        """The sum over the phases: of two "the printed depth is their sum, which is D in both limits of 4 × D"."""
+        return NEXT_DEPTH if isinstance(path, Next) else sum(depth(self.chain.load(hundredths)) for hundredths in path.phases)
 
     def width(self, path, *operands):
         """The most that two ends may differ; None where an operand state is undecided."""
@@ -34,33 +36,36 @@ class Rules:
         return NEXT_WIDTH if isinstance(path, Next) else WIDTH_FACTOR * self.depth(path)
 
     def bounds(self, path, first, second):
-        """The bracket of a reading; where the second operand holds the first does not matter."""
-        alone = tuple(a and not b for a, b in zip(first, second))
-        key = path.hundredths, alone, second
+        """The bracket of a reading; in one phase the first operand does not matter where the second holds."""
+        single = len(path.phases) == 1
+        key = tuple(a and not b for a, b in zip(first, second)) if single else first, second, *path.phases
         if key not in self.known:
-            self.known[key] = bracket(self.chain, alone, second, path.hundredths)
+            self.known[key] = (bracket if single else bracket_pairs)(self.chain, *key)
         return self.known[key]
 
     def ends(self, path, *operands):
         """The Ends of each state, where the operands have these verdicts."""
-        return (self.next_ends if isinstance(path, Next) else self.until_ends)(path, *operands)
+        return (self.next_ends if isinstance(path, Next) else self.timed_ends)(path, *operands)
 
     def next_ends(self, path, operand):
         """Both ends of `X` are determined: its fraction rounded down for the one reading, up for the other."""
         lows, highs = (next_chances(self.chain, reading(operand, taken)) for taken in ((YES,), (YES, UNDECIDED)))
-        downs = [floor_billionths(low.numerator, low.denominator) for low in lows]
-        ups = [ceil_billionths(high.numerator, high.denominator) for high in highs]
         width = self.width(path, operand)
-        return [Ends((down, down), (up, up), width) for down, up in zip(downs, ups)]
+        return [Ends((down, down), (up, up), width) for down, up in zip(map(floor_billionths, lows), map(ceil_billionths, highs))]
 
-    def until_ends(self, path, first, second):
+    def timed_ends(self, path, first, second):
+        """Of `U` and of `V`: "undecided operand states read as no" make the lower end, through both phases, and read as yes the upper."""
         lows = self.bounds(path, reading(first, (YES,)), reading(second, (YES,)))
         highs = self.bounds(path, reading(first, (YES, UNDECIDED)), reading(second, (YES, UNDECIDED)))
-        slack = WIDTH_FACTOR * self.depth(path)
         width = self.width(path, first, second)
-        exact = self.chain.load(path.hundredths) == 0
-        return [state_ends(a, b, low, high, 0 if exact else slack, width)
+        slack = 0 if self.exact(path) else WIDTH_FACTOR * self.depth(path)
+        point = until_point if len(path.phases) == 1 else pair_point
+        return [point(a, b) or Ends((max(0, low.up - slack), low.down), (high.up, min(BILLION, high.down + slack)), width)
                 for a, b, low, high in zip(first, second, lows, highs)]
+
+    def exact(self, path):
+        """Whether each end is the exact value of its reading: "with load 0", and of two phases "with q = 0"."""
+        return self.chain.q == 0 or path.phases == (0,)
 
     def verdicts(self, node, *operands):
         """The verdicts that a `P` can have at each state, where its operands have these: by the moves just one, else by its ends."""
@@ -79,13 +84,14 @@ def reading(verdicts, taken_as_yes):
     return tuple(verdict in taken_as_yes for verdict in verdicts)
 
 
-def state_ends(first, second, low, high, slack, width):
-    """The Ends of one state; `low` and `high` are the Bounds of the lower and the upper reading."""
-    if second == YES:
-        return CERTAIN
-    if first == second == NO:
-        return IMPOSSIBLE
-    return Ends((max(0, low.up - slack), low.down), (high.up, min(BILLION, high.down + slack)), width)
+def until_point(first, second):
+    """The Ends that are given for an until by the verdicts of its operands at a state, if there are such."""
+    return CERTAIN if second == YES else IMPOSSIBLE if first == second == NO else None
+
+
+def pair_point(first, second):
+    """The same of two phases: "both 0 where the first operand is no", whatever the second is, and no other."""
+    return IMPOSSIBLE if first == NO else None
 
 
 def has(ends, lower, upper):

@@ -31,20 +31,56 @@ class And:
 
 @dataclass(frozen=True)
 class Until:
-    """A path formula: neither a node nor a level. Its hours are in hundredths."""
+    """A path formula, `U`: neither a node nor a level. Its time is in hundredths of an hour, as every time here."""
     hundredths: int
     first: object
     second: object
+    letter = b"U"
 
     @property
     def operands(self):
         return self.first, self.second
 
+    @property
+    def times(self):
+        """The times that are typed, in their order."""
+        return (self.hundredths,)
+
+    @property
+    def phases(self):
+        """How long each phase is, the earlier one first."""
+        return self.times
+
+
+@dataclass(frozen=True)
+class Between:
+    """Until between two times, `V`: the second operand at some time from the earliest to the latest, the first until then."""
+    earliest: int
+    latest: int
+    first: object
+    second: object
+    letter = b"V"
+
+    @property
+    def operands(self):
+        return self.first, self.second
+
+    @property
+    def times(self):
+        return self.earliest, self.latest
+
+    @property
+    def phases(self):
+        """One where the first time is 0: "it is `U` with the second". Else two, and "the later of two phases is until over the difference"."""
+        return (self.earliest, self.latest - self.earliest) if self.earliest else (self.latest,)
+
 
 @dataclass(frozen=True)
 class Next:
-    """The other path formula, `X`: what holds after the next move."""
+    """The next move, `X`: what holds after it. It has no time."""
     operand: object
+    letter = b"X"
+    times = phases = ()
 
     @property
     def operands(self):
@@ -56,6 +92,10 @@ class P:
     comparison: bytes
     threshold: int
     path: object
+
+
+# The path formulas with times, and how many of these each has.
+TIMED = {Until.letter: (Until, 1), Between.letter: (Between, 2)}
 
 
 class Broken(Exception):
@@ -111,17 +151,18 @@ def bounded(tokens, at):
 
 
 def path_formula(tokens, at):
-    """`X` and a state formula, or `U`, hours and two of them."""
-    kind = token(tokens, at)
-    if kind == b"X":
+    """`X` and a state formula, `U`, hours and two of them, or `V`, hours twice and two of them."""
+    letter = token(tokens, at)
+    if letter == Next.letter:
         operand, at = state_formula(tokens, at + 1)
         return Next(operand), at
-    if kind != b"U":
+    if letter not in TIMED:
         raise Broken
-    hundredths = hours(tokens, at + 1)
-    first, at = state_formula(tokens, at + 2)
+    kind, count = TIMED[letter]
+    times = [hours(tokens, at + 1 + place) for place in range(count)]
+    first, at = state_formula(tokens, at + 1 + count)
     second, at = state_formula(tokens, at)
-    return Until(hundredths, first, second), at
+    return kind(*times, first, second), at
 
 
 def number(tokens, at):
@@ -158,7 +199,7 @@ def spelled(tree):
 
 def path_head(path):
     """What stands before the operands of a path formula."""
-    return b"U " + hours_text(path.hundredths) if isinstance(path, Until) else b"X"
+    return b" ".join([path.letter, *map(hours_text, path.times)])
 
 
 def operands(tree):
@@ -195,6 +236,6 @@ def bounds(tree):
     return [node for node in nodes(tree) if isinstance(node, P)]
 
 
-def untils(tree):
-    """Every until of the tree, outer ones first."""
-    return [node.path for node in bounds(tree) if isinstance(node.path, Until)]
+def paths(tree):
+    """Every path formula of the tree, outer ones first."""
+    return [node.path for node in bounds(tree)]

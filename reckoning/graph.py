@@ -66,12 +66,14 @@ def holds(comparison, threshold, possible, certain):
 
 
 def decided(chain, node, operands):
-    """The verdict of a `P` at each state whose operands have these verdicts; None where it is not the moves that decide."""
-    if node.threshold not in EXTREMES or any(UNDECIDED in verdicts for verdicts in operands):
+    """The verdict of a `P` at each state whose operands have these verdicts; None where it is not the moves that decide: they leave "two phases to
+    their ends".
+    """
+    if node.threshold not in EXTREMES or len(node.path.phases) == 2 or any(UNDECIDED in verdicts for verdicts in operands):
         return None
     truths = [tuple(verdict == YES for verdict in verdicts) for verdicts in operands]
     if isinstance(node.path, Next):
         possible, certain = next_possible(chain, *truths), next_certain(chain, *truths)
     else:
-        possible, certain = until_possible(chain, node.path.hundredths, *truths), until_certain(truths[1])
+        possible, certain = until_possible(chain, *node.path.phases, *truths), until_certain(truths[1])
     return tuple(YES if holds(node.comparison, node.threshold, *pair) else NO for pair in zip(possible, certain))

@@ -6,6 +6,7 @@ from . import backing
 from . import formula as f
 from .ends import Rules, has
 from .graph import decided
+from .pairs import Unsettled
 from .refusal import refusal
 from .report import ENDS_OF, Layout, read_report, refused
 
@@ -14,9 +15,12 @@ from .report import ENDS_OF, Layout, read_report, refused
 # and no operand state can be undecided.
 Allowed = namedtuple("Allowed", "depth width lower upper verdicts")
 
+# What is raised where it cannot be told what the rules allow.
+CANNOT_TELL = backing.TooMany, Unsettled
+
 
 def judge(moves, labels, formula, printed, lent=None):
-    """The faults of a printed answer; none if it is allowed. May raise backing.TooMany.
+    """The faults of a printed answer; none if it is allowed. May raise what is in CANNOT_TELL.
 
     The second listing follows from the first, so that a wrong one is a fault of the layout, and no row is judged then.
     """
@@ -95,7 +99,7 @@ def other_faults(box, rows):
 
 
 def allowed_ends(moves, labels, formula):
-    """What the rules leave for the report of an accepted job. May raise backing.TooMany."""
+    """What the rules leave for the report of an accepted job. May raise what is in CANNOT_TELL."""
     job = refusal(moves, labels, formula)
     if isinstance(job, int):
         raise ValueError(f"refused with {job}")

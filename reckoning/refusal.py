@@ -108,13 +108,19 @@ def unknown_name(job):
 
 
 def large_number(job):
+    """Both times of a `V` are tested."""
     return (any(p.threshold > MOST_THRESHOLD for p in f.bounds(job.tree))
-            or any(until.hundredths > MOST_HUNDREDTHS for until in f.untils(job.tree)))
+            or any(time > MOST_HUNDREDTHS for path in f.paths(job.tree) for time in path.times))
+
+
+def falling_times(job):
+    """The first time of a `V` exceeds the second."""
+    return any(first > second for path in f.paths(job.tree) for first, second in zip(path.times, path.times[1:]))
 
 
 def large_load(job):
-    """Moves to the own state are not in q."""
-    return any(job.chain.q * until.hundredths > MOST_RATE_HUNDREDTHS for until in f.untils(job.tree))
+    """Of each phase, "14 tests each phase". Moves to the own state are not in q."""
+    return any(job.chain.q * hundredths > MOST_RATE_HUNDREDTHS for path in f.paths(job.tree) for hundredths in path.phases)
 
 
 def lengths(states, moves, nodes):
@@ -133,7 +139,7 @@ def short_buffer(job):
     return job.lent is not None and any(has < need for has, need in zip(job.lent, needed(job), strict=True))
 
 
-# Document 01's table, in the order of its tests. "7 is never given again".
+# Document 01's table, in the order of its tests. "7 is never given again"; "16 .. tested after 13 and before 14".
 TESTS = (
     (1, empty_or_long),
     (2, broken_line),
@@ -147,6 +153,7 @@ TESTS = (
     (11, large_formula),
     (12, unknown_name),
     (13, large_number),
+    (16, falling_times),
     (14, large_load),
     (15, short_buffer),
 )

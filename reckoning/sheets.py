@@ -25,6 +25,11 @@ def until(hundredths, comparison=b"<", threshold=1):
     return b"P %s %d U %s up dead\n" % (comparison, threshold, hours_text(hundredths))
 
 
+def between(earliest, latest, comparison=b"<", threshold=1):
+    """An until between two times, over the same labels, as a formula text."""
+    return b"P %s %d V %s %s up dead\n" % (comparison, threshold, hours_text(earliest), hours_text(latest))
+
+
 # "With labels `state,up,dead` / `0,1,0` / `1,0,1`, moves `from,to,rate` / `0,1,500` and formula `P >= 1000000000 U 0 up dead`,
 # it prints in full: .." "Call these two texts the small sheet." It "prints three lines more: the names, state 1, state 0".
 LABELS = labels_text([b"up", b"dead"], [(1, 0), (0, 1)])

@@ -1,12 +1,11 @@
 """Whether what the library did with a job, or a printed answer, agrees with the second reckoning and with document 01.
 
-Faults are told in words; none where all is as it should be. `TooMany` is raised where the second reckoning gives up, as the rules leave too
-many ways to back the report; the number and the memory have been looked at by then.
+Faults are told in words; none where all is as it should be. Where the second reckoning gives up, as the rules leave too many ways to back the report
+or a limit is not settled, it raises what is in `CANNOT_TELL`; the number and the memory have been looked at by then.
 """
 from ctypes import sizeof
 
-from reckoning.backing import TooMany
-from reckoning.judge import judge
+from reckoning.judge import CANNOT_TELL, judge
 from reckoning.limits import MOST_STATES
 from reckoning.refusal import needed, refusal
 from reckoning.report import Row, listing, refused, worst_first
@@ -27,7 +26,7 @@ def tried(faults, *arguments):
     """What a function makes of an answer: its faults, or None where the second reckoning gives up."""
     try:
         return faults(*arguments)
-    except TooMany:
+    except CANNOT_TELL:
         return None
 
 

@@ -28,7 +28,7 @@ use mathlib.Core.Bool.{{cond}}
 use mathlib.Core.List.{{List, [], _∷_}}
 use lib.Dec.{{eqb}}
 use Rattle.csl.specs.Text.{{bytes}}
-use Rattle.csl.specs.Formula.{{always, label, negated, both, chance, until, nextMove, Less, AtMost, AtLeast, More}}
+use Rattle.csl.specs.Formula.{{always, label, negated, both, chance, until, between, nextMove, Less, AtMost, AtLeast, More}}
 use Rattle.csl.specs.Lent.{{Buffers, needed}}
 use Rattle.csl.specs.Chain.{{topRate}}
 use Rattle.csl.specs.Verdicts.{{No, Yes, Undecided}}
@@ -58,13 +58,16 @@ def term(tree):
         return f"(label (bytes {quoted(tree.name)}))"
     below = " ".join(map(term, f.operands(tree)))
     if isinstance(tree, f.P):
-        return f"(chance {COMPARISONS[tree.comparison]} {tree.threshold} ({path_word(tree.path)} {below}))"
+        return f"(chance {COMPARISONS[tree.comparison]} {tree.threshold} ({path_words(tree.path)} {below}))"
     return f"({'negated' if isinstance(tree, f.Not) else 'both'} {below})"
 
 
-def path_word(path):
-    """A path formula without its operands."""
-    return f"until {path.hundredths}" if isinstance(path, f.Until) else "nextMove"
+PATHS = {f.Until: "until", f.Between: "between", f.Next: "nextMove"}
+
+
+def path_words(path):
+    """A path formula without its operands: its kind and its times."""
+    return " ".join([PATHS[type(path)], *map(str, path.times)])
 
 
 def buffers(lent):

@@ -1,7 +1,7 @@
 """Jobs that meet a limit of document 01 exactly, and jobs that pass it by one."""
 from reckoning.limits import (BILLION, FORMULA_BYTES, FORMULA_DIGITS, HOUR, MOST_HUNDREDTHS, MOST_LETTERS, MOST_LEVELS, MOST_MOVES, MOST_NAMES,
                               MOST_NODES, MOST_RATE, MOST_RATE_HUNDREDTHS, MOST_STATES, SHEET_BYTES, SHEET_DIGITS, most_hundredths)
-from reckoning.sheets import LABELS, MOVES, MOVES_LINE, NO_MOVES, labels_text, moves_text, until
+from reckoning.sheets import LABELS, MOVES, MOVES_LINE, NO_MOVES, between, labels_text, moves_text, until
 
 
 def small(formula):
@@ -74,6 +74,11 @@ def load(rate, hundredths):
     return moves_text([(0, 1, rate)]), LABELS, until(hundredths)
 
 
+def loads(rate, earliest, latest):
+    """A greatest exit rate, and an until between two times in hundredths of an hour."""
+    return moves_text([(0, 1, rate)]), LABELS, between(earliest, latest)
+
+
 def hours(typed):
     """An until whose hours are typed so."""
     return small(b"P < 1 U %s up dead" % typed)
@@ -89,6 +94,14 @@ def next_threshold(number):
 
 def next_levels(count):
     return small(b"P < 1 X " * (count - 1) + b"up")
+
+
+def between_threshold(number):
+    return MOVES, LABELS, between(HOUR, 8 * HOUR, threshold=number)
+
+
+def between_levels(count):
+    return small(b"P < 1 V 1 8 up " * (count - 1) + b"up")
 
 
 def formula_bytes(count):
@@ -141,6 +154,20 @@ def pairs():
         "threshold of a next move": about(next_threshold, BILLION),
         "levels of next moves": about(next_levels, MOST_LEVELS),
         "operands of a next move": (small(b"P < 1 X dead"), small(b"P < 1 X dead up")),
+        "times that rise": about(lambda earliest: loads(500, earliest, 8 * HOUR), 8 * HOUR),
+        "times that rise at the top": (loads(1, MOST_HUNDREDTHS, MOST_HUNDREDTHS), loads(1, MOST_HUNDREDTHS, MOST_HUNDREDTHS - 1)),
+        "hours of both times": about(lambda hundredths: loads(1, hundredths, hundredths), MOST_HUNDREDTHS),
+        "hours of the second time": about(lambda hundredths: loads(1, 1, hundredths), MOST_HUNDREDTHS),
+        "hours of the first time, which falls": (loads(1, MOST_HUNDREDTHS, 1), loads(1, MOST_HUNDREDTHS + 1, 1)),
+        "load up to the first time": about(lambda hundredths: loads(MOST_RATE, hundredths, hundredths), most_hundredths(MOST_RATE)),
+        "load from the first time on": about(lambda hundredths: loads(MOST_RATE, HOUR, HOUR + hundredths), most_hundredths(MOST_RATE)),
+        "load from time 0 on": about(lambda hundredths: loads(MOST_RATE, 0, hundredths), most_hundredths(MOST_RATE)),
+        "load from the first time on by one": (loads(MOST_RATE_HUNDREDTHS // 1_600, 1_600, 3_200), loads(near, 1_516, 1_516 + 1_517)),
+        "load where times fall": (loads(MOST_RATE, HOUR + 1, HOUR), loads(MOST_RATE, HOUR + 1, HOUR + 1)),
+        "two times": (small(b"P < 1 V 1 8 up dead"), small(b"P < 1 V 1 up dead")),
+        "decimals of the second time": (small(b"P < 1 V 1 8.05 up dead"), small(b"P < 1 V 1 8.50 up dead")),
+        "threshold between times": about(between_threshold, BILLION),
+        "levels between times": about(between_levels, MOST_LEVELS),
         "rates with a restart": about(restarts, MOST_RATE),
         "load beside a restart": about(load_beside_restarts, most_hundredths(MOST_RATE // 2)),
         "digits in the formula": (threshold(BILLION), threshold(10**FORMULA_DIGITS)),

@@ -41,8 +41,11 @@ class Floats:
 
     def chance(self, node):
         """The probability of a `P`, at each state."""
-        below = map(self.holds, operands(node))
-        return self.next_move(*below) if isinstance(node.path, Next) else self.until(node.path.hundredths / HOUR, *below)
+        below = [self.holds(each) for each in operands(node)]
+        if isinstance(node.path, Next):
+            return self.next_move(*below)
+        phases = [hundredths / HOUR for hundredths in node.path.phases]
+        return self.until(*phases, *below) if len(phases) == 1 else self.between(*phases, *below)
 
     def next_move(self, holds):
         """The probability of an `X` at each state."""
@@ -51,13 +54,21 @@ class Floats:
 
     def until(self, hours, first, second):
         """The probability of an until at each state."""
+        return self.after(hours, [float(holds) for holds in second], [b or not a for a, b in zip(first, second)])
+
+    def between(self, earlier, later, first, second):
+        """The probability of an until over the later hours, once the first operand has held for the earlier ones."""
+        start = [value if holds else 0.0 for value, holds in zip(self.until(later, first, second), first)]
+        return self.after(earlier, start, [not holds for holds in first])
+
+    def after(self, hours, values, held):
+        """The mean of the values that the chain has come to after so many hours; a state that is held keeps the value that it has."""
         q = max(self.exits)
-        values = [float(holds) for holds in second]
         weight, step = exp(-q * hours), 0
         left, sums = 1 - weight, [weight * value for value in values]
         while left > NEGLIGIBLE and step < 2 * q * hours + 100:
             step += 1
-            values = [1.0 if second[s] else self.stepped(values, s, q) if first[s] else 0.0 for s in self.states]
+            values = [values[s] if held[s] else self.stepped(values, s, q) for s in self.states]
             weight *= q * hours / step
             left -= weight
             sums = [total + weight * value for total, value in zip(sums, values)]

@@ -2,18 +2,17 @@
 
 A job is a tuple of the three texts (moves, labels, formula) as bytes.
 """
-from math import ceil, floor
-
-from reckoning.bracket import Bounds, bracket
+from reckoning.bracket import Bounds, bracket, ceil_billionths, floor_billionths
 from reckoning.chain import Chain, next_chances
-from reckoning.formula import COMPARISONS, hours_text
+from reckoning.formula import COMPARISONS, Between, Until, path_head
 from reckoning.graph import EXTREMES
-from reckoning.limits import BILLION, HOUR, MOST_LETTERS, MOST_LOAD, MOST_RATE, RATE_HUNDREDTHS, most_hundredths
+from reckoning.limits import BILLION, HOUR, MOST_HUNDREDTHS, MOST_LETTERS, MOST_LOAD, MOST_RATE, RATE_HUNDREDTHS, most_hundredths
+from reckoning.pairs import Pair
 from reckoning.sheets import labels_text, moves_text
 
 NAMES = [b"up", b"dead", b"power", b"gamma", b"locator", b"gun", b"wet", b"hot", b"t", b"ta", b"tta", b"s", b"stat", b"states",
          b"abcdefghijklmnopqrstuvwxyz"[:MOST_LETTERS]]
-TELLING = b"0123456789,.\n aPUX!&tx<=>z/:`{+-\x1f\r\t\x00\x8a\xff"    # bytes that mean something, and those just beside them
+TELLING = b"0123456789,.\n aPUVX!&tx<=>z/:`{+-\x1f\r\t\x00\x8a\xff"    # bytes that mean something, and those just beside them
 
 
 class Sheet:
@@ -51,10 +50,21 @@ class Sheet:
         most = most_hundredths(self.chain.q, most_load * RATE_HUNDREDTHS)
         return rng.choice([0, min(1, most), most, rng.randint(0, most), rng.randint(0, most // HOUR) * HOUR])
 
+    def times(self, rng, most_load=MOST_LOAD):
+        """Two times, the load up to the first and that from there to the second at most `most_load`: often the first is 0, or both are the same."""
+        earliest = self.hundredths(rng, most_load)
+        return earliest, min(MOST_HUNDREDTHS, earliest + self.hundredths(rng, most_load))
+
+    def path(self, rng, letter, most_load=MOST_LOAD):
+        """An until, or one between two times, without its operands."""
+        if letter == "U":
+            return Until(self.hundredths(rng, most_load), None, None)
+        return Between(*self.times(rng, most_load), None, None)
+
 
 def random_formula(rng, sheet, levels, most_load):
     """A state formula as tokens, at most so many levels deep."""
-    kind = rng.choice("tlll!&UUUUXX") if levels > 1 else rng.choice("tlll")
+    kind = rng.choice("tlll!&UUUVVVXX") if levels > 1 else rng.choice("tlll")
     if kind == "t":
         return [b"tt"]
     if kind == "l":
@@ -67,9 +77,8 @@ def random_formula(rng, sheet, levels, most_load):
     second = random_formula(rng, sheet, levels - 1, most_load)
     if kind == "&":
         return [b"&", *first, *second]
-    hundredths = sheet.hundredths(rng, most_load)
-    names = rng.choice(sheet.names), rng.choice(sheet.names)
-    return [*random_bound(rng, until_bounds(rng, sheet, hundredths, *names)), b"U", hours_text(hundredths), *first, *second]
+    path, names = sheet.path(rng, kind, most_load), (rng.choice(sheet.names), rng.choice(sheet.names))
+    return [*random_bound(rng, timed_bounds(rng, sheet, path, *names)), path_head(path), *first, *second]
 
 
 def random_bound(rng, bounds):
@@ -78,31 +87,39 @@ def random_bound(rng, bounds):
     return [b"P", rng.choice(COMPARISONS), b"%d" % rng.choice([*EXTREMES, *EXTREMES, 1, rng.randint(0, BILLION), near, near])]
 
 
-def until_bounds(rng, sheet, hundredths, first, second):
-    """The two whole billionths about the probability of an until over two labels, at some state."""
-    return some_apart(rng, bracket(sheet.chain, sheet.marks(first), sheet.marks(second), hundredths))
+def timed_bounds(rng, sheet, path, first, second):
+    """The two whole billionths about the probability of an until over two labels, at some state; of two phases about the quotient at their depths."""
+    marks = sheet.marks(first), sheet.marks(second)
+    if len(path.phases) == 1:
+        return some_apart(rng, bracket(sheet.chain, *marks, *path.phases))
+    return some_apart(rng, map(about, Pair(sheet.chain, *marks, path.phases, 0, 0).least))
 
 
 def next_bounds(rng, sheet, name):
     """The two whole billionths about the probability that a label holds after the next move, at some state."""
-    chances = [BILLION * chance for chance in next_chances(sheet.chain, sheet.marks(name))]
-    return some_apart(rng, [Bounds(floor(chance), ceil(chance)) for chance in chances])
+    return some_apart(rng, map(about, next_chances(sheet.chain, sheet.marks(name))))
+
+
+def about(chance):
+    """The two whole billionths about a fraction; the same twice where it is one."""
+    return Bounds(floor_billionths(chance), ceil_billionths(chance))
 
 
 def some_apart(rng, bounds):
     """The bounds of some state, of one where they are apart if there is one."""
-    return rng.choice([each for each in bounds if each.down < each.up] or bounds)
+    found = list(bounds)
+    return rng.choice([each for each in found if each.down < each.up] or found)
 
 
 def near_formula(rng, sheet, most_load):
     """A `P` over labels whose threshold is one of the two whole billionths about its own probability at some state."""
     names = rng.choice(sheet.names), rng.choice(sheet.names)
     if rng.random() < 0.3:
-        bounds, path = next_bounds(rng, sheet, names[0]), [b"X", names[0]]
+        bounds, asked = next_bounds(rng, sheet, names[0]), [b"X", names[0]]
     else:
-        hundredths = sheet.hundredths(rng, most_load)
-        bounds, path = until_bounds(rng, sheet, hundredths, *names), [b"U", hours_text(hundredths), *names]
-    return [b"P", rng.choice(COMPARISONS), b"%d" % rng.choice(bounds), *path]
+        path = sheet.path(rng, rng.choice("UV"), most_load)
+        bounds, asked = timed_bounds(rng, sheet, path, *names), [path_head(path), *names]
+    return [b"P", rng.choice(COMPARISONS), b"%d" % rng.choice(bounds), *asked]
 
 
 def formula_about(rng, sheet, inner, most_load):
@@ -111,7 +128,8 @@ def formula_about(rng, sheet, inner, most_load):
     if rng.random() < 0.3:
         return [*bound, b"X", *inner]
     other = [rng.choice(sheet.names)]
-    return [*bound, b"U", hours_text(sheet.hundredths(rng, most_load)), *(inner + other if rng.random() < 0.5 else other + inner)]
+    head = path_head(sheet.path(rng, rng.choice("UV"), most_load))
+    return [*bound, head, *(inner + other if rng.random() < 0.5 else other + inner)]
 
 
 def random_job(rng, most_states=6, levels=4, most_load=3):

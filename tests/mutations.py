@@ -20,9 +20,11 @@ NUMBERS = [b"%d" % number for number in (
     MOST_RATE, MOST_RATE + 1, BILLION - 1, BILLION, BILLION + 1, 10**FORMULA_DIGITS - 1, 10**FORMULA_DIGITS)]
 HOURS = [*map(hours_text, (1, 50, 825, 850, MOST_HUNDREDTHS - 1, MOST_HUNDREDTHS + 1)), b"8.50", b"8.0", b"8.", b".5", b"00.5", b"8.125", b"8.2.5",
          b"9999999999.99", b"10000000000.5"]
-WORDS = [b"tt", b"state", b"up", b"dead", b"t", b"tta", b"abcdefghijkl", b"abcdefghijklm", b"", b"00", b"01", b"U", b"X", b"\xff"]
+WORDS = [b"tt", b"state", b"up", b"dead", b"t", b"tta", b"abcdefghijkl", b"abcdefghijklm", b"", b"00", b"01", b"U", b"V", b"X", b"\xff"]
 OPERATORS = [b"! ", b"& tt ", b"& up ", b"P < 1 U 1 tt ", b"P >= 500000000 U %s up " % hours_text(MOST_HUNDREDTHS), b"P > 0 U 0 ", b"P < 1 X ",
-             b"P >= 333333334 X ", b"P > 0 U 0.01 tt ", b"P <= 0 X ", b"P >= 1000000000 X ", b"P < 1000000000 U 1 tt "]
+             b"P >= 333333334 X ", b"P > 0 U 0.01 tt ", b"P <= 0 X ", b"P >= 1000000000 X ", b"P < 1000000000 U 1 tt ", b"P < 1 V 0.5 1 tt ",
+             b"P > 0 V 0 0.01 tt ", b"P > 0 V 0.01 0.01 up ", b"P < 1 V 1 0.5 tt "]
+TIMED = re.compile(rb"U \S+|V \S+ \S+")
 THRESHOLD = re.compile(rb"(?<=P < |P > )\d+|(?<=P <= |P >= )\d+")
 MOST_SUM = 2**32 - 1         # in 32 bits
 MOST_CHANGES = 4
@@ -59,6 +61,14 @@ def with_number(rng, text):
 def with_extremes(rng, text):
     """Thresholds of a formula, each or not, replaced by 0 or 1,000,000,000."""
     return THRESHOLD.sub(lambda found: rng.choice([found[0], *(b"%d" % extreme for extreme in EXTREMES)]), text)
+
+
+def with_times(rng, text):
+    """The untils of a formula, each or not, replaced by one between two times: some that stand there, 0, at a limit or beyond, rising or falling."""
+    def other(found):
+        times = [*found[0].split()[1:], b"0", b"0.01", b"1", rng.choice(HOURS)]
+        return rng.choice([found[0], b"V %s %s" % (rng.choice(times), rng.choice(times))])
+    return TIMED.sub(other, text)
 
 
 def with_great_rates(rng, text):
@@ -117,9 +127,10 @@ def mutated(rng, job, other):
 
 
 def bent_job(rng):
-    """A made job whose layout is kept, so that it is the later tests that it fails, or none: numbers replaced, or operators put into the formula."""
+    """A made job whose layout is kept, so that it is the later tests that it fails, or none: numbers or times replaced, or operators put into the
+    formula."""
     texts = list(random_job(rng))
-    which, bend = rng.choice([(0, with_number), (0, with_great_rates), (2, with_number), (2, with_operators), (2, with_extremes)])
+    which, bend = rng.choice([(0, with_number), (0, with_great_rates), (2, with_number), (2, with_operators), (2, with_extremes), (2, with_times)])
     texts[which] = bend(rng, texts[which])
     return tuple(texts)
 

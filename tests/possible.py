@@ -32,7 +32,14 @@ def drawn_question(rng, speed, levels):
         first, second = (drawn_operand(rng, speed, levels - 1) for _ in range(2))
     if rng.random() < 0.2:
         return b"%s X %s" % (bound, second)
-    return b"%s U %s %s %s" % (bound, rng.choice(speed.hours), first, second)
+    return b"%s %s %s %s" % (bound, drawn_head(rng, speed), first, second)
+
+
+def drawn_head(rng, speed):
+    """`U` and hours, or `V` and two that do not fall, which are two phases, and not for the moves to decide, where the first are above 0."""
+    if rng.random() < 0.7:
+        return b"U " + rng.choice(speed.hours)
+    return b"V %s %s" % tuple(sorted((rng.choice(speed.hours), rng.choice(speed.hours)), key=float))
 
 
 def drawn_operand(rng, speed, levels):
@@ -40,4 +47,4 @@ def drawn_operand(rng, speed, levels):
     if levels and rng.random() < 0.3:
         return drawn_question(rng, speed, levels)
     return rng.choice([rng.choice(NAMES), b"! " + rng.choice(NAMES), b"! & ! %s ! %s" % tuple(rng.sample(NAMES, 2)),
-                       b"P %s U %s tt %s" % (rng.choice(speed.near), rng.choice(speed.hours), rng.choice(NAMES))])
+                       b"P %s %s tt %s" % (rng.choice(speed.near), drawn_head(rng, speed), rng.choice(NAMES))])

@@ -4,6 +4,7 @@ import time
 from collections import Counter, namedtuple
 
 from reckoning.limits import MOST_LOAD
+from reckoning.refusal import BY_TEXTS, SHORT
 from tests.agreement import library_faults, printed, tried
 from tests.jobs import damaged_job, random_job
 from tests.library import ENOUGH
@@ -66,6 +67,6 @@ def soak(count, seed, library, say=print):
 
 def told(counts):
     """The counts in a line."""
-    refused = ", ".join(f"{number}: {counts[number]}" for number in range(1, 16) if counts[number])
+    refused = ", ".join(f"{number}: {counts[number]}" for number in sorted({*BY_TEXTS, SHORT}) if counts[number])
     return (f"{counts['jobs']} jobs, {counts['by the program']} of them by the program too; {counts[0]} accepted; refused {refused or 'none'}; "
             f"{counts['given up']} given up by the judge")

@@ -86,6 +86,14 @@ class Falsified(unittest.TestCase):
         self.assertEqual(library_faults(ACCEPTED, wrong, most_states=1), ["row 1 of the order is state 0, should be 2"])
         self.assertEqual(library_faults(ACCEPTED, self.accepted, most_states=1), [])
 
+    def test_another_question(self):
+        """What was done for one question is told where it is handed in for another: an until where one between two times is asked for, from the
+        first hour on and from time 0 on over less time; from time 0 on over the same time it is the same."""
+        for path, told in ((b"V 1 8", "depth 42, should be 84"), (b"V 8 8", "depth 42, should be 82"), (b"V 0 7.99", "ends "), (b"V 0 8", "")):
+            other = *SHEET, ACCEPTED[2].replace(b"U 8", path)
+            found = library_faults(other, self.accepted._replace(texts=other))
+            self.assertEqual([line.partition(": ")[2].startswith(told) for line in found[:1]], [True] * bool(told), found)
+
     def test_texts(self):
         for called, job in ((self.accepted, ACCEPTED), (self.refused, REFUSED)):
             self.assertEqual(library_faults(job, called._replace(texts=(b"", *job[1:]))), ["a text has changed"])

@@ -8,7 +8,7 @@ from reckoning.limits import HOUR, MOST_HUNDREDTHS, MOST_LEVELS, MOST_MOVES, MOS
 from reckoning.refusal import BY_TEXTS, refusal
 from reckoning.report import refused
 from reckoning.sheets import LABELS, MOVES, REPORT
-from tests.edges import levels, load, moves, small, typed
+from tests.edges import levels, load, loads, moves, small, typed
 from tests.places import ROOT
 from tests.program import put
 
@@ -16,7 +16,7 @@ SAMPLE = re.compile(r"^    \$ (\./sheetcheck \S+)\n((?:    .+\n)+)", re.MULTILIN
 DRAWN = re.compile(r"^    (tools/curve .*) --out (docs/\S+\.svg)$", re.MULTILINE)
 SAID = re.compile(r"sheetcheck: refused, since [a-z].*\.\n")
 
-# For each number that three texts can be refused with, the example that document 01 gives beside it; 7 is never given.
+# For each number that three texts can be refused with, the example that document 01 gives beside it, and one for 16; 7 is never given.
 TURNED_BACK = {
     1: (MOVES, LABELS, b""),
     2: typed(b"0,1"),
@@ -31,6 +31,7 @@ TURNED_BACK = {
     12: small(b"gas"),
     13: load(500, MOST_HUNDREDTHS + 1),
     14: load(MOST_RATE, HOUR + 1),
+    16: loads(500, 8 * HOUR, HOUR),
 }
 
 

@@ -16,7 +16,7 @@ from reckoning.__main__ import read_texts
 from reckoning.judge import judge
 from reckoning.limits import BILLION, FORMULA_BYTES
 from reckoning.report import read_report
-from reckoning.sheets import LABELS, MOVES, REPORT_LINE
+from reckoning.sheets import FAST_MOVES, LABELS, MOVES, REPORT_LINE
 from reckoning.tests.chains import row, texts
 from tests.places import EXAMPLES, FOLDERS, ROOT
 from tests.program import put
@@ -164,6 +164,29 @@ class Curve(unittest.TestCase):
             self.shows(picture, self.rows(folder, b"P <= 10000000 U %s power P > 300000000 X ! collar\n", (8, "24.5", 48), 0))
             self.assertIn("P <= 10000000 U t power P > 300000000 X ! collar", picture.words())
 
+    def asking(self, formula):
+        """A folder with the gun string and another formula."""
+        folder = tempfile.TemporaryDirectory()
+        self.addCleanup(folder.cleanup)
+        put((*read_texts(EXAMPLES / "gun-string")[:2], formula), folder.name)
+        return folder.name
+
+    def test_second_time(self):
+        """Of a `V` the second time is replaced, from the first on; the first stays, and so do those further in."""
+        folder = self.asking(b"P <= 10000000 V 2 8.25 power lost\n")
+        picture = self.drawn(folder, "8.25", "2", "2.5", "48")
+        self.shows(picture, self.rows(folder, b"P <= 10000000 V 2 %s power lost\n", (2, "2.5", "8.25", 48), 0))
+        self.assertIn("P <= 10000000 V 2 t power lost", picture.words())
+        folder = self.asking(b"! P <= 10000000 V 0.25 9 power P > 5 V 2 3 power lost\n")
+        picture = self.drawn(folder, "1", "0.25", "--state", "6")
+        self.shows(picture, self.rows(folder, b"P <= 10000000 V 0.25 %s power P > 5 V 2 3 power lost\n", ("0.25", 1), 6))
+
+    def test_first_time_0(self):
+        """It is drawn as the until is, from no time on."""
+        folder = self.asking(b"P <= 10000000 V 0 8.25 power lost\n")
+        picture = self.drawn(folder, "0", "8", "24")
+        self.shows(picture, self.rows(EXAMPLES / "gun-string", b"P <= 10000000 U %s power lost\n", (0, 8, 24), 0))
+
     def test_possible(self):
         """With the threshold 0 the moves decide: no with no time, yes with some, though the ends are 0 and 1 there."""
         folder = EXAMPLES / "whole-again"
@@ -197,6 +220,9 @@ class NoPicture(unittest.TestCase):
         self.refuses("refused with 14 at 110 h", EXAMPLES / "polling-3", "100", "110")
         self.refuses("refused with 13 at 9000 h", EXAMPLES / "small", "9000")
         with tempfile.TemporaryDirectory() as folder:
+            put((FAST_MOVES, LABELS, b"P >= 5 V 0.5 1 up dead\n"), folder)
+            self.refuses("refused with 14 at 1.51 h", folder, "1.5", "1.51")
+        with tempfile.TemporaryDirectory() as folder:
             put((MOVES, LABELS, b"P >= 5 U 2 up gas\n"), folder)
             out = Path(folder) / "curve.svg"
             self.refuses("refused with 12 at 1 h", folder, "1", "--out", out)
@@ -222,6 +248,18 @@ class NoPicture(unittest.TestCase):
                 self.assertIn("`X` has no hours", told)
                 self.assertFalse(out.exists())
         self.assertEqual(curve(EXAMPLES / "first-fault", "8")[0], 2)
+
+    def test_before_the_first_time(self):
+        """Hours before the first time of a `V` are wrong use, even beside others, and whatever its second time is."""
+        for typed, hours in ((b"2 8.25", ("1.99",)), (b"2 8.25", ("48", "0", "2")), (b"8 8", ("7.99", "9")), (b"0.02 1", ("0.01",))):
+            with self.subTest(typed, hours=hours), tempfile.TemporaryDirectory() as folder:
+                put((*read_texts(EXAMPLES / "gun-string")[:2], b"P <= 10000000 V %s power lost\n" % typed), folder)
+                out = Path(folder) / "curve.svg"
+                status, picture, told = curve(folder, *hours, "--out", out)
+                self.assertEqual((status, picture), (2, ""))
+                first = typed.split()[0].decode()
+                self.assertIn(f"{min(hours, key=float)} h is before the first time of `P <= 10000000 V {first} t power lost`", told)
+                self.assertFalse(out.exists())
 
     def test_sheet_and_state(self):
         self.refuses("No such file", EXAMPLES / "none", "1")

@@ -9,7 +9,7 @@ from reckoning.judge import report_depth
 from reckoning.limits import BILLION, HOUR, MOST_HUNDREDTHS, MOST_LEVELS, MOST_RATE, MOST_STATES, RATE_HOURS
 from reckoning.refusal import BY_TEXTS, SHORT, Job, lengths, refusal
 from reckoning.report import Row, worst_first
-from reckoning.sheets import FULL_MOVES, LABELS, MOVES, MOVES_LINE, labels_text, moves_text, until
+from reckoning.sheets import FULL_MOVES, LABELS, MOVES, MOVES_LINE, NO_MOVES, between, labels_text, moves_text, until
 from reckoning.verdict import WORDS
 from tests import definitions
 
@@ -35,6 +35,19 @@ JOBS = (
     (MOVES, LABELS, b"& up gas\n", None),
     (MOVES, LABELS, until(MOST_HUNDREDTHS + 1), None),
     (FULL_MOVES, LABELS, until(HOUR + 1), None),
+    (MOVES, LABELS, between(HOUR, 825), lengths(2, 1, 3)),
+    (MOVES, LABELS, b"P <= 7 V 0 8.25 P > 5 V 8 8 tt dead P < 1 X P >= 0 V 0.05 %s up ! dead\n" % hours_text(MOST_HUNDREDTHS), None),
+    (NO_MOVES, LABELS, between(MOST_HUNDREDTHS, MOST_HUNDREDTHS), None),
+    (FULL_MOVES, LABELS, between(HOUR, 2 * HOUR), None),
+    (FULL_MOVES, LABELS, between(0, HOUR + 1), None),
+    (FULL_MOVES, LABELS, between(HOUR + 1, HOUR + 1), None),
+    (FULL_MOVES, LABELS, between(HOUR, 2 * HOUR + 1), None),
+    (FULL_MOVES, LABELS, b"& P < 1 U 5 up dead P < 1 V 3 1 up dead\n", None),
+    (MOVES, LABELS, between(801, 800), None),
+    (MOVES, LABELS, b"P < 1 V 8 1 up P < 1 V 1 8760.01 up dead\n", None),
+    (MOVES, LABELS, between(MOST_HUNDREDTHS + 1, HOUR), None),
+    (MOVES, LABELS, b"P < 1 V 1 up dead\n", None),
+    (MOVES, LABELS, b"P < 1 V 1 8.50 up dead\n", None),
     (moves_text([(0, 1, RATE_HOURS)]), LABELS, until(6_325), lengths(2, 1, 3)),
     (MOVES, LABELS, b"P > 0 U 0.01 up P >= 1000000000 X dead\n", lengths(2, 1, 4)),
     (MOVES, LABELS, until(HOUR), lengths(2, 1, 3)._replace(marks=5)),

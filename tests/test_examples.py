@@ -6,6 +6,7 @@ import unittest
 from examples.generate import SHEETS, texts
 from reckoning.__main__ import read_texts
 from reckoning.backing import near_operands
+from reckoning.chain import depth
 from reckoning.ends import Rules, verdicts
 from reckoning.formula import Next, P, bounds, operands, spelled
 from reckoning.judge import allowed_ends, judge
@@ -79,6 +80,28 @@ class Examples(unittest.TestCase):
         self.assertEqual((longer.verdicts, longer.lower[15][1] // 1_000_000), (allowed.verdicts, 976))
         plain = read_texts(EXAMPLES / "redundant-string")
         self.assertEqual(sheet[:2], plain[:2])
+
+    def test_one_asks_between_two_times(self):
+        """Whether the guns can be fired once the string has settled, with the other times that its README names: within all of the time, and within
+        that of settling, an until is 1 where both tools are good, with power down too."""
+        moves, labels, formula = read_texts(EXAMPLES / "not-before-settled")
+        self.assertEqual((moves, labels), tuple(read_texts(EXAMPLES / "gun-string")[:2]))
+        self.assertEqual(self.depths(moves, labels, formula), [44, 48])
+
+        def asked(path):
+            allowed = allowed_ends(moves, labels, formula.replace(b"V 2 8.25", path))
+            return [(f"{lower[1] / BILLION:.5f}", *words) for lower, words in zip(allowed.lower[:2], allowed.verdicts)]
+        self.assertEqual(asked(b"V 2 8.25"), [("0.99352", "yes"), ("0.00000", "no")])
+        for path in (b"U 8.25", b"U 2"):
+            self.assertEqual(asked(path), [("1.00000", "yes")] * 2)
+        for path, told in ((b"V 2 2", ("0.99120", "yes")), (b"V 3 8.25", ("0.99010", "yes")), (b"V 3.25 8.25", ("0.98923", "no"))):
+            self.assertEqual(asked(path)[0], told)
+            self.assertIn(told[0], (EXAMPLES / "not-before-settled" / "README.md").read_text())
+
+    def depths(self, *sheet):
+        """The depths of the phases of the outermost question."""
+        job = refusal(*sheet)
+        return [depth(job.chain.load(hundredths)) for hundredths in job.tree.path.phases]
 
     def test_restarts_change_no_until(self):
         restarts, plain = read_texts(EXAMPLES / "first-fault"), read_texts(EXAMPLES / "gun-string")

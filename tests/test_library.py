@@ -9,7 +9,7 @@ from reckoning.formula import hours_text
 from reckoning.limits import BILLION, HOUR, MOST_HUNDREDTHS, MOST_MOVES, MOST_NODES, MOST_RATE, MOST_STATES
 from reckoning.refusal import BY_TEXTS, Lent, lengths, needed, refusal
 from reckoning.sheets import FAST_MOVES, FORMULA, LABELS, MOVES, NO_MOVES, labels_text, moves_text
-from tests import edges, orders, ways
+from tests import edges, orders, two_times, ways
 from tests.agreement import elements, library_faults, printed, refusal_number, rows_of, tried
 from tests.jobs import damaged_job, random_job
 from tests.library import ENOUGH, GUARD, KINDS, MORE, Library
@@ -61,7 +61,7 @@ class Jobs(LibraryTest):
     def test_small_formulas(self):
         """Over the small sheet and with q 64,000,000: reports, and every number that a formula can earn but 11."""
         numbers = {self.agrees((moves, LABELS, formula))[0].number for moves in (MOVES, FAST_MOVES) for formula in SMALL_FORMULAS}
-        self.assertEqual(numbers, {0, 1, 10, 12, 13, 14})
+        self.assertEqual(numbers, {0, 1, 10, 12, 13, 14, 16})
 
     def test_limits(self):
         for name, (meets, passes) in edges.pairs().items():
@@ -102,6 +102,7 @@ class EveryByte(LibraryTest):
         (NO_MOVES, b"state\n0\n", b"P < 1987654321 U 1876543219 tt ! & tt tt\n"),
         (NO_MOVES, b"state,ta\n0,1\n", b"P <= 1000000000 U %s ta ! ta\n" % hours_text(MOST_HUNDREDTHS - 75)),
         (moves_text([(0, 0, 2), (0, 1, 1), (1, 1, MOST_RATE)]), b"state,ta\n0,1\n1,0\n", b"P > 333333333 X P <= 666666667 X ta\n"),
+        (moves_text([(0, 1, MOST_RATE // 2)]), b"state,ta\n0,1\n1,0\n", b"P > 5 V 0.75 2.75 ta P <= 1 V 0 1.25 tt ! ta\n"),
     )
     ALWAYS = b"./09:`az{,\n \x00\xff"
 
@@ -118,7 +119,7 @@ class EveryByte(LibraryTest):
     def test_numbers(self):
         called = [self.agrees(job, FEW)[0] for job in self.changed()]
         self.assertGreater(len(called), 5_000)
-        self.assertLessEqual({0, 1, 2, 3, 4, 6, 8, 9, 10, 12, 13, 14}, {each.number for each in called})
+        self.assertLessEqual({0, 1, 2, 3, 4, 6, 8, 9, 10, 12, 13, 14, 16}, {each.number for each in called})
 
 
 class Buffers(LibraryTest):
@@ -351,6 +352,55 @@ class Possible(LibraryTest):
             for job in ways.far_away(hours):
                 rows = rows_of(self.agrees(job)[0], 6)
                 self.assertEqual([row.verdict for row in rows[:3]], [first, "yes", "yes"])
+
+
+class TwoTimes(LibraryTest):
+    """`V`: reports, and that it is `U` with the first time 0, in all that is written."""
+
+    def test_known_jobs(self):
+        for typed in (b"1 8", b"8 8", b"0.01 8760", b"0 8", b"0 0", b"8760 8760"):
+            for job in (two_times.small(typed), two_times.small(typed, first=b"tt"), two_times.no_moves(typed)):
+                self.assertEqual(self.agrees(job)[0].number, 0)
+        for typed in (b"2 2", b"0.5 2", b"0.01 64.01", b"64 64", b"64 128"):
+            for job in (two_times.in_the_middle(typed), two_times.never_left(typed)):
+                self.assertEqual(self.agrees(job)[0].number, 0)
+        self.assertEqual(self.agrees(two_times.largest())[0].number, 0)
+
+    def test_depth_is_the_sum(self):
+        for job, depth in ((two_times.small(b"1 8"), 84), (two_times.small(b"8 8"), 82), (two_times.no_moves(b"1 2"), 80),
+                           (two_times.largest(), 336)):
+            self.assertEqual(elements(self.library.check(job), "depth", 1), [depth])
+
+    def test_first_time_0(self):
+        """The same answer, the same lengths needed, and the same bytes in all that is written."""
+        rng, changed = random.Random(42), 0
+        for job in (make(rng) for _ in range(MADE // 2) for make in (random_job, drawn_job)):
+            other = two_times.from_time_0(job)
+            need = needed(refusal(*job))
+            self.assertEqual(needed(refusal(*other)), need)
+            one, two = (self.library.check(each, need) for each in (job, other))
+            self.assertEqual((two.number, printed(two, states_of(job))), (one.number, printed(one, states_of(job))), other)
+            self.assertFalse(tried(library_faults, other, two))
+            changed += other != job
+        self.assertGreater(changed, MADE // 4)
+
+    def test_thresholds(self):
+        """At 0 and 1,000,000,000 the ends are those of other thresholds, and the verdicts follow from them."""
+        for typed in (b"0.01 0.01", b"0.01 0.02", b"1 8760"):
+            rows = [rows_of(self.agrees(two_times.slow_row(bound, typed))[0], 3) for bound in (b"> 0", b"> 1", b">= 1000000000")]
+            first, *others = [[row[:3] for row in each] for each in rows]
+            self.assertEqual(others, [first, first])
+        rows = rows_of(self.agrees(two_times.slow_row(b"> 0", b"0.01 0.02"))[0], 3)
+        self.assertEqual([row.verdict for row in rows], ["undecided", "yes", "no"])
+
+    def test_refused_jobs_leave_all(self):
+        """16 comes before 14 and 15, and after all others."""
+        falling = edges.small(b"P < 1 V 8 1 up dead")
+        for job, number in ((falling, 16), (edges.loads(MOST_RATE, 2 * HOUR, HOUR), 16), (edges.loads(MOST_RATE, HOUR, 2 * HOUR + 1), 14),
+                            (edges.loads(1, MOST_HUNDREDTHS + 1, HOUR), 13), (edges.small(b"P < 1 V 8 1 gas dead"), 12)):
+            for lent in (NOTHING, ONES, ENOUGH):
+                called, _ = self.agrees(job, lent)
+                self.assertEqual((called.number, called.after), (number, called.before))
 
 
 def refused_jobs():

@@ -6,14 +6,17 @@ from pathlib import Path
 
 from bench import sheets
 from reckoning.__main__ import FILES
-from reckoning.formula import COMPARISONS, hours_text
-from reckoning.limits import BILLION, HOUR, MOST_HUNDREDTHS, MOST_RATE, MOST_RATE_HUNDREDTHS, RATE_HOURS, most_hundredths
+from reckoning.formula import COMPARISONS, Between, Until, hours_text, path_head
+from reckoning.limits import (BILLION, HOUR, MOST_HUNDREDTHS, MOST_RATE, MOST_RATE_HUNDREDTHS, RATE_HOURS, SPARE_STEPS,
+                              most_hundredths)
+from reckoning.refusal import refusal
 from reckoning.report import read_report
 from reckoning.sheets import labels_text, moves_text
 from tests.jobs import Sheet
 from tests.program import run
 
-WIDEST = 2                  # billionths, at every load that is not refused
+WIDEST = 2                  # billionths, of one phase, at every load that is not refused
+WIDEST_OF_TWO = 4           # of two phases
 MADE = 500
 CHAINS = 500
 LOADS = 1_000
@@ -22,10 +25,14 @@ LOADS = 1_000
 class Narrow(unittest.TestCase):
     def narrow(self, jobs):
         """Every interval of every job is narrow, and there are intervals that are no point."""
-        widths = [width for job in jobs for width in widths_of(job)]
+        widest = self.told([width for job in jobs for width in widths_of(job)])
+        self.assertLessEqual(widest, WIDEST)
+        self.assertGreater(widest, 0)
+
+    def told(self, widths):
+        """The widest, with a line that says so."""
         print(f"{self.id().split('.')[-1]}: {len(widths)} intervals, the widest {max(widths)} billionths")
-        self.assertLessEqual(max(widths), WIDEST)
-        self.assertGreater(max(widths), 0)
+        return max(widths)
 
     def test_bench(self):
         with tempfile.TemporaryDirectory() as folder:
@@ -49,16 +56,29 @@ class Narrow(unittest.TestCase):
         widths = [width for _ in range(MADE) for width in widths_of(next_job(rng))]
         self.assertEqual(set(widths), {0, 1})
 
+    def test_between_two_times(self):
+        """Of two phases, most of the jobs with a first time above 0, no interval is wider than twice that."""
+        rng = random.Random(9)
+        rows = [row for job in between_jobs(rng) for row in rows_of(job)]
+        widest = self.told([row.upper - row.lower for row in rows])
+        self.assertLessEqual(widest, WIDEST_OF_TWO)
+        self.assertGreater(widest, 0)
+        self.assertGreater(sum(row.depth >= 2 * SPARE_STEPS for row in rows), len(rows) // 2)
+
     def test_loads(self):
         rng = random.Random(6)
         whole = [(RATE_HOURS, hundredths) for hundredths in range(HOUR, most_hundredths(RATE_HOURS) + 1, HOUR)]
         self.narrow(load_job(*load) for load in whole + [random_load(rng) for _ in range(LOADS)])
 
 
+def rows_of(job):
+    """The rows of a report."""
+    return read_report(run(job), len(job[1].split(b"\n")) - 2)
+
+
 def widths_of(job):
     """The width of each interval of a report."""
-    states = len(job[1].split(b"\n")) - 2
-    return [row.upper - row.lower for row in read_report(run(job), states)]
+    return [row.upper - row.lower for row in rows_of(job)]
 
 
 def bench_jobs(folder):
@@ -70,15 +90,15 @@ def bench_jobs(folder):
             yield moves, labels, sheets.until(hours).encode() + b"\n"
 
 
-def until(rng, hundredths, first, second):
-    """An until over two labels, which no state leaves undecided."""
-    return b"P %s %d U %s %s %s\n" % (rng.choice(COMPARISONS), rng.randint(0, BILLION), hours_text(hundredths), first, second)
+def question(rng, path, first, second):
+    """A path with these times over two labels, which no state leaves undecided."""
+    return b"P %s %d %s %s %s\n" % (rng.choice(COMPARISONS), rng.randint(0, BILLION), path_head(path), first, second)
 
 
-def made_job(rng):
-    """A random sheet with an until over two of its labels."""
+def made_job(rng, letter="U"):
+    """A random sheet with an until over two of its labels, or with one between two times."""
     sheet = Sheet(rng, 8)
-    return sheet.moves_text, sheet.labels_text, until(rng, sheet.hundredths(rng), rng.choice(sheet.names), rng.choice(sheet.names))
+    return sheet.moves_text, sheet.labels_text, question(rng, sheet.path(rng, letter), rng.choice(sheet.names), rng.choice(sheet.names))
 
 
 def next_job(rng):
@@ -86,6 +106,21 @@ def next_job(rng):
     sheet = Sheet(rng, 8)
     formula = b"P %s %d X %s\n" % (rng.choice(COMPARISONS), rng.randint(0, BILLION), rng.choice(sheet.names))
     return sheet.moves_text, sheet.labels_text, formula
+
+
+def between_jobs(rng):
+    """Untils between two times over labels: on made sheets, stiff chains and rows, with loads of all sizes up to the greatest in each phase."""
+    yield from (made_job(rng, "V") for _ in range(MADE))
+    for moves, labels, _ in (chain_job(rng) for _ in range(CHAINS)):
+        most = most_hundredths(refusal(moves, labels, b"tt\n").chain.q)
+        yield moves, labels, question(rng, two_times(rng.randint(1, most), rng.choice([0, most, rng.randint(0, most)])), b"first", b"second")
+    for rate, hundredths in [random_load(rng) for _ in range(MADE)]:
+        yield *load_job(rate, hundredths)[:2], question(rng, two_times(hundredths, hundredths), b"tt", b"last")
+
+
+def two_times(earliest, rest):
+    """An until between two times that are so far apart, or less far where that would be too late."""
+    return Between(earliest, min(MOST_HUNDREDTHS, earliest + rest), None, None)
 
 
 def line_job(states):
@@ -116,7 +151,7 @@ def chain_job(rng):
     hundredths = rng.choice([min(HOUR, most), most, rng.randint(1, most)])
     marks = [rng.choice([[0, 0], [1, 0], [1, 0], [1, 0], [0, 1]]) for _ in range(states)]
     moves = sorted((s, to, rate) for s, row in enumerate(rows) for to, rate in row)
-    return moves_text(moves), labels_text([b"first", b"second"], marks), until(rng, hundredths, b"first", b"second")
+    return moves_text(moves), labels_text([b"first", b"second"], marks), question(rng, Until(hundredths, None, None), b"first", b"second")
 
 
 def row_of(rng, states, top):

@@ -13,7 +13,7 @@ from reckoning.sheets import (FAST_MOVES, FORMULA, FULL_MOVES, HOURS_8, LABELS, 
 from reckoning.tests import chains
 from reckoning.tests.prints import twice
 from reckoning.tests.vectors import MISSING, cases, texts_of
-from tests import edges, orders, ways
+from tests import edges, orders, two_times, ways
 from tests.agreement import refusal_number, tried
 from tests.jobs import Sheet, damaged_job, random_job
 from tests.mutations import bent_job
@@ -205,7 +205,111 @@ class Program(unittest.TestCase):
     def test_stack_of_the_deepest_formulas(self):
         limit = lambda: resource.setrlimit(resource.RLIMIT_STACK, (READING_STACK, READING_STACK))
         told = subprocess.run([DEEP], stdout=subprocess.PIPE, check=True, preexec_fn=limit).stdout
-        self.assertEqual(told, b"ok\n" * 21)
+        self.assertEqual(told, b"ok\n" * 30)
+
+
+class TwoTimes(unittest.TestCase):
+    """`V`: the second operand at some time between two, the first until then."""
+
+    def rows(self, job):
+        """The rows of a report that the rules allow."""
+        printed = run(job)
+        self.assertEqual(judge(*job, printed), [], job)
+        return read_report(printed, job[1].count(b"\n") - 1)
+
+    def holds(self, row, value):
+        """Whether a value in billionths, not whole, lies within the ends of a row."""
+        self.assertLess(row.lower, value)
+        self.assertLess(value, row.upper)
+
+    def test_small_sheet(self):
+        """Up for an hour, then dead within seven: state 1, dead and not up, has ends 0 and 0. What was before does not matter with `tt`."""
+        first, dead = self.rows(two_times.small(b"1 8"))
+        self.holds(first, 3_492_135.635)
+        self.assertEqual((first.depth, first.verdict, dead), (84, "no", (0, 0, 84, "yes")))
+        first, dead = self.rows(two_times.small(b"1 8", first=b"tt"))
+        self.holds(first, 3_992_010.656)
+        self.assertEqual((dead.upper, dead.depth, dead.verdict), (BILLION, 84, "no"))
+
+    def test_first_time_0(self):
+        """It is `U` in every respect: the same text is printed, be it a report or a refusal."""
+        rng = random.Random(41)
+        jobs = [(MOVES, LABELS, FORMULA), (MOVES, LABELS, HOURS_8), (NO_MOVES, LABELS, HOURS_8), edges.load(MOST_RATE, HOUR),
+                edges.load(MOST_RATE, HOUR + 1), edges.load(1, MOST_HUNDREDTHS), edges.load(1, MOST_HUNDREDTHS + 1)]
+        jobs += [ways.until_job(led, *bound) for led in ways.known(5).values() for bound in ways.BOUNDS]
+        jobs += [make(rng) for _ in range(MADE // 4) for make in (random_job, drawn_job)]
+        changed = 0
+        for job in jobs:
+            other = two_times.from_time_0(job)
+            changed += other != job
+            self.assertEqual(run(other), run(job), other)
+        self.assertGreater(changed, 0.5 * len(jobs))
+
+    def test_equal_times(self):
+        """Two phases, the later one with load 0 and depth 40: where the chain is at two hours, and at eight."""
+        first, middle, last = self.rows(two_times.in_the_middle(b"2 2"))
+        self.holds(first, 270_670_566.473)
+        self.holds(middle, 135_335_283.237)
+        self.assertEqual((last.lower, {row.depth for row in (first, middle, last)}), (0, {84}))
+        self.holds(self.rows(two_times.small(b"8 8", first=b"tt"))[0], 3_992_010.656)
+        self.assertEqual(self.rows(two_times.small(b"8 8"))[0][:3:2], (0, 82))
+
+    def test_states_of_the_second_are_stepped(self):
+        """From half an hour to two: in the middle state at its start is not enough, since it may be left before."""
+        first, middle, _ = self.rows(two_times.in_the_middle(b"0.5 2"))
+        self.holds(first, 774_460_706.7)
+        self.holds(middle, 606_530_659.7)
+
+    def test_states_where_the_first_fails_stay_at_0(self):
+        """Whoever has left the first state and come back does not count, and the second state has ends 0."""
+        for typed in (b"2 2", b"2 8"):
+            here, other = self.rows(two_times.never_left(typed))
+            self.holds(here, 135_335_283.237)
+            self.assertEqual((other.lower, other.upper), (0, 0))
+
+    def test_no_moves(self):
+        """With q = 0 the ends are exact; with the first time 0 the first operand does not matter where the second holds."""
+        for typed in (b"1 2", b"0.01 0.01", b"8760 8760", b"0.01 8760"):
+            rows = self.rows(two_times.no_moves(typed))
+            self.assertEqual([(row.lower, row.upper) for row in rows], two_times.no_moves_ends())
+            self.assertEqual({row.depth for row in rows}, {80})
+        self.assertEqual([row.verdict for row in self.rows(two_times.no_moves(b"0 2"))], ["yes", "no", "yes", "no"])
+
+    def test_ends_alone_decide(self):
+        """Possible or certain by the moves is not asked of two phases: undecided where the threshold lies between the ends."""
+        for bound, word in ((b"> 0", "undecided"), (b"<= 0", "undecided"), (b">= 0", "yes"), (b"< 0", "no"), (b">= 1000000000", "no"),
+                            (b"< 1000000000", "yes"), (b"<= 1000000000", "yes"), (b"> 1000000000", "no")):
+            first, _, last = self.rows(two_times.slow_row(bound, b"0.01 0.02"))
+            none = "yes" if bound in (b"<= 0", b">= 0", b"< 1000000000", b"<= 1000000000") else "no"
+            self.assertEqual((first.lower, first.verdict, last), (0, word, (0, 0, 84, none)), bound)
+            by_moves = {b"> 0": "yes", b"<= 0": "no"}.get(bound, word)
+            self.assertEqual(self.rows(two_times.slow_row(bound, b"0 0.02"))[0].verdict, by_moves, bound)
+
+    def test_among_other_nodes(self):
+        """Within an until, about one, under `!`, in a next move and within itself, with undecided operands and without."""
+        inner, near = b"P >= 3492136 V 1 8 up dead", b"P >= 3992011 U 8 up dead"
+        for formula in (b"P >= 1 U 0 tt " + inner, b"! " + inner, b"P > 0 X " + inner, b"P > 5 V 1 2 tt " + inner,
+                        b"P > 5 V 1 2 " + inner + b" dead", b"P >= 500000000 V 1 8 up " + near,
+                        b"P >= 500000000 V 1 1 ! " + near + b" dead", b"P > 0 V 0.01 1 up " + near,
+                        b"& " + inner + b" P < 5 V 0 8 up dead", b"P > 0 V 1 8 P > 0 V 0 8 up dead P > 0 X up"):
+            self.rows((MOVES, LABELS, formula + b"\n"))
+        self.assertEqual(self.rows((MOVES, LABELS, b"P >= 1 U 0 tt " + inner + b"\n"))[0].verdict, "undecided")
+
+    def test_refusals(self):
+        for formula, number in ((b"P < 1 V 8 1 up dead", 16), (b"P < 1 V 0.02 0.01 up dead", 16), (b"P < 1 V 9000 1 up dead", 13),
+                                (b"P < 1 V 1 9000 up dead", 13), (b"P < 1000000001 V 8 1 up dead", 13), (b"P < 1 V 1 up dead", 10),
+                                (b"P < 1 V 8 1 gas dead", 12), (b"& P < 1 U 5 up dead P < 1 V 3 1 up dead", 16)):
+            self.assertEqual(run(edges.small(formula)), refused(number), formula)
+        for formula, number in ((b"P < 1 V 2 2 up dead", 14), (b"P < 1 V 0 2 up dead", 14), (b"P < 1 V 1 2.01 up dead", 14),
+                                (b"P < 1 V 2 1 up dead", 16), (b"& P < 1 U 5 up dead P < 1 V 3 1 up dead", 16)):
+            self.assertEqual(run((FULL_MOVES, LABELS, formula + b"\n")), refused(number), formula)
+
+    def test_greatest_loads(self):
+        """Depth 168 in each phase, with as many states as there may be, within the program's stack."""
+        job = two_times.largest()
+        printed = run(job, stack=STACK)
+        self.assertEqual(judge(*job, printed), [])
+        self.assertEqual({row.depth for row in read_report(printed, MOST_STATES)}, {336})
 
 
 class Possible(unittest.TestCase):

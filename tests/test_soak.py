@@ -10,7 +10,8 @@ from unittest import mock
 from reckoning import formula as f
 from reckoning.backing import near_operands
 from reckoning.ends import Rules, verdicts
-from reckoning.graph import EXTREMES, decided
+from reckoning.graph import EXTREMES
+from reckoning.limits import HOUR
 from reckoning.refusal import BY_TEXTS, SHORT, needed, refusal
 from reckoning.verdict import UNDECIDED, WORDS, of_ends
 from tests import finding, soaking
@@ -77,18 +78,38 @@ def another_state_first(called):
     return called._replace(after=called.after._replace(order=data))
 
 
+KINDS = {(): "next move", (0,): "no time"}
+
+
 def kinds_of(job):
     """What there is to say of the bounds of a job that ask for possible or certain, the ends taken as near as can be."""
     rules = Rules(job.chain)
     for node in f.bounds(job.tree):
         if node.threshold in EXTREMES:
             operands = near_operands(rules, node)
-            yield "next move" if isinstance(node.path, f.Next) else "until" if node.path.hundredths else "no time"
+            two = len(node.path.phases) == 2
+            yield "two phases" if two else KINDS.get(node.path.phases, "until")
             yield "outermost" if node is job.tree else "inner"
-            if decided(rules.chain, node, operands) is None:
+            if any(UNDECIDED in operand for operand in operands):
                 yield "an operand undecided"
             elif any(UNDECIDED in verdicts(node, ends) for ends in rules.ends(node.path, *operands)):
-                yield "the ends would not tell"
+                yield "the ends do not tell" if two else "the ends would not tell"
+
+
+def phases_of(job):
+    """What there is to say of the untils between two times of a job, the ends taken as near as can be."""
+    rules = Rules(job.chain)
+    for node in f.bounds(job.tree):
+        if isinstance(node.path, f.Between):
+            earliest, latest = node.path.times
+            yield "from 0" if earliest == 0 else "equal times" if earliest == latest else "rising times"
+            yield "no moves" if rules.chain.q == 0 else "moves"
+            if earliest % HOUR and latest % HOUR:
+                yield "decimals"
+            if any(UNDECIDED in operand for operand in near_operands(rules, node)):
+                yield "an operand undecided"
+            yield from ("inside a " + type(other.path).__name__ for other in f.bounds(job.tree) if node in f.nodes(other)[1:])
+            yield from ("about a " + type(other.path).__name__ for other in f.bounds(node)[1:])
 
 
 class Soak(unittest.TestCase):
@@ -128,8 +149,19 @@ class Soak(unittest.TestCase):
         for reckoned in (refusal(*some_job(rng)) for _ in range(JOBS)):
             if not isinstance(reckoned, int) and reckoned.chain.states <= FEW_STATES:
                 seen.update(kinds_of(reckoned))
-        for kind in ("until", "next move", "no time", "inner", "outermost", "the ends would not tell", "an operand undecided"):
+        for kind in ("until", "next move", "no time", "two phases", "inner", "outermost", "the ends would not tell", "the ends do not tell",
+                     "an operand undecided"):
             self.assertGreater(seen[kind], 15, seen)
+
+    def test_untils_between_two_times(self):
+        """Of the jobs that are tried many have these, with all kinds of times and operands, inside other questions and about them."""
+        rng, seen = random.Random(SEED), Counter()
+        for reckoned in (refusal(*some_job(rng)) for _ in range(JOBS)):
+            if not isinstance(reckoned, int) and reckoned.chain.states <= FEW_STATES:
+                seen.update(phases_of(reckoned))
+        for kind in ("from 0", "equal times", "rising times", "decimals", "moves", "no moves", "an operand undecided",
+                     *(f"{where} a {each}" for where in ("inside", "about") for each in ("Until", "Between", "Next"))):
+            self.assertGreater(seen[kind], 10, seen)
 
     def test_move_words_of_all_lengths_are_lent(self):
         """Just enough, one short, half, one more and many more; short ones alone are refused with 15."""
@@ -157,7 +189,7 @@ class Soak(unittest.TestCase):
         self.assertTrue(any(each < -1 for each in over) and any(each > MORE for each in over), over)
 
     def test_a_wrong_program_is_found(self):
-        with mock.patch.object(soaking, "run", lambda job: b"refused\n16\n"):
+        with mock.patch.object(soaking, "run", lambda job: b"refused\n7\n"):
             ended = soak(JOBS, SEED, self.library)
         self.assertEqual(ended.counts["jobs"], soaking.PROGRAM_EVERY)
         self.assertIn("the program", ended.faults[0])

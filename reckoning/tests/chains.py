@@ -1,7 +1,7 @@
 """Chains for the tests, made and random, with their texts."""
 
 from reckoning.chain import Chain, until
-from reckoning.limits import HOUR, MOST_RATE, RATE_HOURS, most_hundredths
+from reckoning.limits import HOUR, MOST_HUNDREDTHS, MOST_RATE, RATE_HOURS, most_hundredths
 from reckoning.sheets import labels_text, moves_text
 
 
@@ -44,6 +44,20 @@ def random_hundredths(random, chain):
     """Hundredths of an hour that keep q x t within the limit, 0 and a whole hour among them."""
     most = most_hundredths(chain.q)
     return random.choice((0, min(HOUR, most), random.randint(0, most), most))
+
+
+def random_times(random, chain):
+    """The two times of a `V` whose phases keep q x t within the limit: the first often 0, or both the same."""
+    earliest = random_hundredths(random, chain)
+    return earliest, min(MOST_HUNDREDTHS, earliest + random_hundredths(random, chain))
+
+
+def random_pairs(random, count):
+    """So many random chains, each with the hundredths of an hour of two phases; the later may have none."""
+    for _ in range(count):
+        chain = random_chain(random)
+        earliest, latest = random_times(random, chain)
+        yield chain, (max(1, earliest), latest - earliest)
 
 
 def random_untils(random, count):

@@ -14,7 +14,7 @@ from reckoning.refusal import refusal
 from reckoning.limits import BILLION
 from reckoning.report import ENDS_OF
 from reckoning.sheets import LABELS, MOVES, REPORT_LINE, moves_text
-from reckoning.tests.chains import random_chain, random_hundredths, row, texts
+from reckoning.tests.chains import random_chain, random_hundredths, random_times, row, texts
 from reckoning.tests.prints import twice
 from reckoning.verdict import NO, WORDS, YES, both, negate
 
@@ -56,7 +56,7 @@ def random_rows(random, rules, node):
 
 def random_formula(random, chain, levels):
     """Tokens of a formula whose thresholds often lie near a value of the chain, or are 0 or 1,000,000,000."""
-    kind = random.choice("!&UUUXXl") if levels > 1 else "l"
+    kind = random.choice("!&UUUVVXXl") if levels > 1 else "l"
     if kind == "l":
         return random.choice((b"tt", b"up", b"dead"))
     parts = [random_formula(random, chain, levels - 1) for _ in range(1 if kind in "!X" else 2)]
@@ -72,7 +72,8 @@ def random_path(random, chain, kind):
     if kind == "X":
         path = f.Next(None)
         return path, random.choice(label_ends(chain, path, b"dead")).lower[0] + random.randint(-1, 1)
-    path = f.Until(random_hundredths(random, chain), None, None)
+    times = random_times(random, chain) if kind == "V" else [random_hundredths(random, chain)]
+    path = f.TIMED[kind.encode()][0](*times, None, None)
     return path, random.choice(Rules(chain).bounds(path, chain.marks[b"up"], chain.marks[b"dead"])).down + random.randint(-60, 60)
 
 
@@ -148,6 +149,27 @@ class Nodes(unittest.TestCase):
         for wrong in ((0, 0, 40, "no"), (BILLION, BILLION, 40, "yes")):
             self.assertNotEqual(judge(moves, labels, formula, printed([wrong, (0, 0, 40, "no")])), [])
         self.assertFalse(judge(moves, labels, formula.replace(b"333333334", b"333333333"), printed([(BILLION, BILLION, 40, "yes"), (0, 0, 40, "no")])))
+
+    def test_between_of_an_inner_verdict(self):
+        """The inner until is yes or undecided at state 0: with it open the lower end is that of no in both phases, and the upper that of yes."""
+        formula = b"P >= 500000000 V 1 8 up " + NEAR + b"\n"
+        yes_at_0, open_at_0 = (999_500_124, 999_500_125, 84, "yes"), (3_492_135, 999_500_125, 84, "undecided")
+        none = (0, 0, 84, "no")
+        for rows, good in (((yes_at_0, none), True), ((open_at_0, none), True), (((0, 999_500_125, 84, "undecided"), none), False),
+                           (((BILLION, BILLION, 84, "yes"), none), False), ((yes_at_0, yes_at_0), False)):
+            self.assertEqual(judge(MOVES, LABELS, formula, printed(rows)) == [], good, rows)
+        allowed = allowed_ends(MOVES, LABELS, formula)
+        self.assertEqual((allowed.verdicts, allowed.depth, allowed.width), ([{"yes", "undecided"}, {"no"}], 84, None))
+
+    def test_between_within_until(self):
+        """The inner limit is about 3,492,135.635: with the threshold between its ends it is undecided at state 0, and the until about it says so."""
+        formula = b"P >= 1 U 0 tt P >= 3492136 V 1 8 up dead\n"
+        open_, no = (0, BILLION, 40, "undecided"), (0, 0, 40, "no")
+        self.assertEqual(judge(MOVES, LABELS, formula, printed([open_, no])), [])
+        for wrong in ((BILLION, BILLION, 40, "yes"), (0, 0, 40, "no")):
+            self.assertNotEqual(judge(MOVES, LABELS, formula, printed([wrong, no])), [])
+        sure = formula.replace(b"3492136", b"3491800")
+        self.assertEqual(judge(MOVES, LABELS, sure, printed([(BILLION, BILLION, 40, "yes"), no])), [])
 
     def test_possible_of_an_inner_verdict(self):
         """The inner until is yes at state 0, or undecided: only in the one way are the moves what decides the outer."""

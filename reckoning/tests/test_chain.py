@@ -4,27 +4,27 @@ import unittest
 from fractions import Fraction
 from itertools import islice
 from math import exp
+from operator import mul
 from random import Random
 
 from reckoning.bracket import Run
-from reckoning.chain import Chain, Phase, depth, next_chances, quotients, step_values, until, weights
+from reckoning.chain import Chain, Phase, depth, earlier, next_chances, pair_quotients, quotients, step_values, until, weights
 from reckoning.limits import HOUR, MOST_HUNDREDTHS, MOST_RATE, MOST_RATE_HUNDREDTHS, RATE_HOURS, RATE_HUNDREDTHS, SPARE_STEPS
-from reckoning.tests.chains import random_chain, random_hundredths, random_untils, reading, row, without_own_moves
+from reckoning.tests.chains import random_chain, random_hundredths, random_pairs, random_untils, reading, row, without_own_moves
 
 
 def first_weights(load, count):
     return list(islice(weights(load), count))
 
 
-def float_until(chain, first, second, hundredths):
-    """The until probability as a matrix power of e in floats: halve the time, add terms, square.
+def float_phase(chain, phase):
+    """The limit of a phase as a matrix power of e in floats: halve the time, add terms, square.
 
     A move to the own state adds to the matrix's own entry what it adds to the total that is taken away there.
     """
     n, halvings = chain.states, 20
-    time = hundredths / RATE_HUNDREDTHS / 2 ** halvings
-    inner = [first[s] and not second[s] for s in range(n)]
-    small = [[time * (chain.rates.get((a, b), 0) - (a == b) * chain.totals[a]) if inner[a] else 0.0
+    time, pinned = phase.hundredths / RATE_HUNDREDTHS / 2 ** halvings, phase.ones | phase.zeros
+    small = [[time * (chain.rates.get((a, b), 0) - (a == b) * chain.totals[a]) if a not in pinned else 0.0
               for b in range(n)] for a in range(n)]
     term = result = [[float(a == b) for b in range(n)] for a in range(n)]
     for k in range(1, 12):
@@ -32,7 +32,7 @@ def float_until(chain, first, second, hundredths):
         result = [[x + y for x, y in zip(*pair)] for pair in zip(result, term)]
     for _ in range(halvings):
         result = times(result, result)
-    return [sum(result[s][b] for b in range(n) if second[b]) for s in range(n)]
+    return [sum(map(mul, line, phase.start)) for line in result]
 
 
 def times(a, b):
@@ -91,7 +91,7 @@ class StepValues(unittest.TestCase):
         phase = until((True, True, False), (True, False, False), MOST_HUNDREDTHS)
         self.assertEqual(list(islice(step_values(chain, phase), 3)), [[1, 0, 0]] * 3)
         self.assertEqual(quotients(chain, phase, 50), [1, 0, 0])
-        self.assertEqual([Run(chain, phase).to(50).quotient(s) for s in range(3)], [1, 0, 0])
+        self.assertEqual(Run(chain, phase).to(50).quotients(), [1, 0, 0])
 
 
 class Quotients(unittest.TestCase):
@@ -120,16 +120,14 @@ class Quotients(unittest.TestCase):
     def test_random_by_a_matrix(self):
         for chain, phase in random_untils(Random(2), 25):
             run = Run(chain, phase).to(depth(chain.load(phase.hundredths)))
-            want = float_until(chain, *reading(chain), phase.hundredths)
+            want = float_phase(chain, phase)
             for s in range(chain.states):
                 self.assertAlmostEqual(float(run.quotient(s)), want[s], delta=1e-9)
 
     def test_fast_sums_are_the_papers(self):
         for chain, phase in random_untils(Random(3), 25):
             for last in (0, 1, 7, 45):
-                run = Run(chain, phase).to(last)
-                self.assertEqual([run.quotient(s) for s in range(chain.states)],
-                                 quotients(chain, phase, last))
+                self.assertEqual(Run(chain, phase).to(last).quotients(), quotients(chain, phase, last))
 
     def test_fast_sums_of_another_phase(self):
         """A phase that starts from fractions and pins nothing to 1."""
@@ -138,18 +136,16 @@ class Quotients(unittest.TestCase):
             chain = random_chain(random)
             start = tuple(Fraction(random.randint(0, 9), 9) for _ in range(chain.states))
             phase = Phase(start, frozenset(), frozenset((0,)), random_hundredths(random, chain))
-            run = Run(chain, phase).to(12)
-            self.assertEqual([run.quotient(s) for s in range(chain.states)], quotients(chain, phase, 12))
+            self.assertEqual(Run(chain, phase).to(12).quotients(), quotients(chain, phase, 12))
 
 
 class Rising(unittest.TestCase):
     def test_with_depth(self):
         for chain, phase in random_untils(Random(5), 30):
             run = Run(chain, phase)
-            before = [run.quotient(s) for s in range(chain.states)]
+            before = run.quotients()
             for last in range(1, 60):
-                run.to(last)
-                after = [run.quotient(s) for s in range(chain.states)]
+                after = run.to(last).quotients()
                 self.assertTrue(all(a <= b for a, b in zip(before, after)))
                 before = after
 
@@ -166,6 +162,87 @@ class Rising(unittest.TestCase):
         for chain, phase in random_untils(Random(19), 30):
             for last in (1, 9, 40):
                 self.assertEqual(quotients(chain, phase, last), quotients(without_own_moves(chain), phase, last))
+
+
+class TwoPhases(unittest.TestCase):
+    """The earlier phase over the later one's quotients."""
+    ROUND = Chain(3, {(0, 1): 1, (0, 2): 1, (1, 0): 1}, {})     # state 2 is for good
+
+    def test_earlier_by_hand(self):
+        """State 1, where both hold, is stepped; state 2, where the second holds alone, is 0 from the start."""
+        first, second = (True, True, False), (False, True, True)
+        later = quotients(self.ROUND, until(first, second, 0), 40)
+        self.assertEqual(later, [0, 1, 1])
+        half, quarter = Fraction(1, 2), Fraction(1, 4)
+        values = step_values(self.ROUND, earlier(first, later, HOUR))
+        self.assertEqual(list(islice(values, 4)), [[0, 1, 0], [half, half, 0], [quarter, half, 0], [quarter, 3 * quarter / 2, 0]])
+
+    def test_quotients_rise_and_fall(self):
+        """With the depth of the earlier phase: at state 1 they fall, at state 0 they rise and fall again."""
+        first, second = (True, True, False), (False, True, True)
+        phases = 100 * HOUR * RATE_HOURS, 0     # load 200
+        found = [pair_quotients(self.ROUND, first, second, phases, (last, 40)) for last in range(1, 30)]
+        at_0, at_1, _ = zip(*found)
+        self.assertTrue(all(before > after for before, after in zip(at_1, at_1[1:])))
+        self.assertGreater(at_0[0], 0)
+        self.assertGreater(at_0[0], at_0[-1])
+        self.assertEqual(pair_quotients(self.ROUND, first, second, phases, (0, 40))[0], 0)
+
+    def test_small_sheet_by_a_closed_form(self):
+        """Up for an hour, then dead within seven; dead by the eighth hour, when nothing is asked of the time before."""
+        chain, rate = row(2, 500), 500 / RATE_HOURS
+        up, dead = reading(chain)
+        got = pair_quotients(chain, up, dead, (HOUR, 7 * HOUR), (42, 42))
+        self.assertAlmostEqual(float(got[0]), exp(-rate) * (1 - exp(-7 * rate)), places=15)
+        self.assertEqual(got[1], 0)
+        got = pair_quotients(chain, (True, True), dead, (HOUR, 7 * HOUR), (42, 42))
+        self.assertAlmostEqual(float(got[0]), 1 - exp(-8 * rate), places=15)
+        self.assertEqual(got[1], 1)
+
+    def test_at_one_time_by_a_closed_form(self):
+        """Both times two hours, a row left once an hour: in the middle state then, r t / e^(r t)."""
+        chain = row(3, 1_000_000)
+        got = pair_quotients(chain, (True,) * 3, (False, True, False), (2 * HOUR, 0), (60, 40))
+        for value, want in zip(got, (2 * exp(-2), exp(-2), 0)):
+            self.assertAlmostEqual(float(value), want, places=14)
+
+    def test_random_by_matrices(self):
+        for chain, phases in random_pairs(Random(61), 25):
+            own = [depth(chain.load(hundredths)) for hundredths in phases]
+            first, second = reading(chain)
+            later = float_phase(chain, until(first, second, phases[1]))
+            want = float_phase(chain, earlier(first, later, phases[0]))
+            start = Run(chain, until(first, second, phases[1])).to(own[1]).quotients()
+            for value, other in zip(Run(chain, earlier(first, start, phases[0])).to(own[0]).quotients(), want):
+                self.assertAlmostEqual(float(value), other, delta=1e-9)
+
+    def test_fast_sums_are_the_papers(self):
+        for chain, phases in random_pairs(Random(62), 15):
+            first, second = reading(chain)
+            for last, later_last in ((0, 0), (1, 9), (9, 1), (12, 12)):
+                start = Run(chain, until(first, second, phases[1])).to(later_last).quotients()
+                run = Run(chain, earlier(first, start, phases[0])).to(last)
+                self.assertEqual(run.quotients(), pair_quotients(chain, first, second, phases, (last, later_last)))
+
+    def test_rising_with_the_reading_and_the_later_depth(self):
+        """At every depth of the earlier phase."""
+        random = Random(63)
+        for chain, phases in random_pairs(random, 20):
+            holds = reading(chain)
+            more = [tuple(mark or random.random() < 0.4 for mark in marks) for marks in holds]
+            for last in (0, 3, 11):
+                less = pair_quotients(chain, *holds, phases, (last, 5))
+                for greater in (pair_quotients(chain, *holds, phases, (last, 8)), pair_quotients(chain, *more, phases, (last, 5))):
+                    self.assertTrue(all(a <= b for a, b in zip(less, greater)))
+
+    def test_splitting_the_time_of_an_until(self):
+        """Where the second is for good and the first holds everywhere, "between the hours" is "within the last of them"."""
+        chain = Chain(3, {(0, 1): 300_000, (1, 0): 700_000, (1, 2): 200_000}, {})
+        everywhere, end = (True,) * 3, (False, False, True)
+        whole = quotients(chain, until(everywhere, end, 5 * HOUR), 70)
+        parts = pair_quotients(chain, everywhere, end, (2 * HOUR, 3 * HOUR), (70, 70))
+        for value, other in zip(whole, parts):
+            self.assertAlmostEqual(float(value), float(other), places=13)
 
 
 class NextMove(unittest.TestCase):

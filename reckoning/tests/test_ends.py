@@ -5,11 +5,11 @@ from itertools import product
 from operator import ge, gt, le, lt
 from random import Random
 
-from reckoning.chain import Chain, next_chances
+from reckoning.chain import Chain, next_chances, pair_quotients
 from reckoning.ends import CERTAIN, IMPOSSIBLE, Ends, Rules, has, verdicts
-from reckoning.formula import COMPARISONS, Next, P, Tt, Until
+from reckoning.formula import COMPARISONS, Between, Next, P, Tt, Until
 from reckoning.limits import BILLION, HOUR, MOST_HUNDREDTHS
-from reckoning.tests.chains import random_chain, random_hundredths, row
+from reckoning.tests.chains import random_chain, random_hundredths, random_times, row
 from reckoning.verdict import NO, UNDECIDED, WORDS, YES, both, negate, of_ends
 
 NEXT = Next(Tt())
@@ -18,6 +18,10 @@ COMPARED = {b"<": lt, b"<=": le, b">=": ge, b">": gt}
 
 def path(hundredths):
     return Until(hundredths, Tt(), Tt())
+
+
+def between(earliest, latest):
+    return Between(earliest, latest, Tt(), Tt())
 
 
 class Verdicts(unittest.TestCase):
@@ -93,6 +97,87 @@ class StateEnds(unittest.TestCase):
                 self.assertTrue(has(ends, ends.lower[1], ends.upper[0]))
                 self.assertTrue(has(ends, ends.lower[0], ends.upper[0]))
                 self.assertTrue(has(ends, ends.lower[1], ends.upper[1]))
+
+
+class TwoPhases(unittest.TestCase):
+    """The ends of `V` with the first time above 0."""
+
+    def test_small_sheet(self):
+        ends = Rules(row(2, 500)).ends(between(HOUR, 8 * HOUR), (YES, NO), (NO, YES))
+        self.assertEqual(ends, [Ends((3_492_136 - 336, 3_492_135), (3_492_136, 3_492_135 + 336), 336), IMPOSSIBLE])
+
+    def test_depth(self):
+        """The sum of the phases' own: with load 0 a phase has 40."""
+        for times, deep in (((HOUR, 8 * HOUR), 84), ((8 * HOUR, 8 * HOUR), 82), ((0, 8 * HOUR), 42), ((0, 0), 40), ((1, 1), 82)):
+            self.assertEqual(Rules(row(2, 500)).depth(between(*times)), deep)
+        self.assertEqual(Rules(row(2, 64_000_000)).depth(between(HOUR, 2 * HOUR)), 336)
+        self.assertEqual(Rules(Chain(2, {}, {})).depth(between(HOUR, 2 * HOUR)), 80)
+
+    def test_point_ends(self):
+        """Both 0 where the first is no, also where the second is yes; no other: where both are yes and none leads away 1 is just the nearest."""
+        certain = Ends((BILLION - 336, BILLION), (BILLION, BILLION), 336)
+        self.assertEqual(Rules(row(2, 500)).ends(between(HOUR, 8 * HOUR), (NO, YES), (YES, YES)), [IMPOSSIBLE, certain])
+        self.assertEqual(Rules(row(2, 500)).ends(between(HOUR, 8 * HOUR), (NO, YES), (UNDECIDED, NO))[0], IMPOSSIBLE)
+
+    def test_neither_reached(self):
+        """A chance of 0 that no point end gives has room above it."""
+        self.assertEqual(Rules(row(2, 500)).ends(between(HOUR, 8 * HOUR), (YES, YES), (NO, NO)), [Ends((0, 0), (0, 336), 336)] * 2)
+
+    def test_no_moves(self):
+        """With q = 0 each end is its reading's exact value, through both phases."""
+        still = Rules(Chain(5, {(0, 0): 9}, {}))
+        ends = still.ends(between(HOUR, 2 * HOUR), (YES, YES, UNDECIDED, YES, NO), (YES, NO, YES, UNDECIDED, YES))
+        self.assertEqual([each[:2] for each in ends], [((BILLION,) * 2,) * 2, ((0, 0), (0, 0)), ((0, 0), (BILLION,) * 2), ((0, 0), (BILLION,) * 2),
+                                                       ((0, 0), (0, 0))])
+
+    def test_load_0_of_the_later_phase(self):
+        """It makes nothing exact: equal times leave the room of 4 x 82."""
+        ends = Rules(row(2, 500)).ends(between(8 * HOUR, 8 * HOUR), (YES, YES), (NO, YES))
+        self.assertEqual(ends, [Ends((3_992_011 - 328, 3_992_010), (3_992_011, 3_992_010 + 328), 328),
+                                Ends((BILLION - 328, BILLION), (BILLION, BILLION), 328)])
+
+    def test_undecided(self):
+        """Read as no through both phases for the lower end, as yes for the upper: at state 1, then for the first at state 0."""
+        rules, times = Rules(row(2, 500)), between(HOUR, 8 * HOUR)
+        for first, second, lower, upper in (((YES, UNDECIDED), (NO, YES), (3_491_800, 3_492_135), (3_992_011, 3_992_346)),
+                                            ((YES, YES), (NO, UNDECIDED), (0, 0), (3_992_011, 3_992_346)),
+                                            ((UNDECIDED, YES), (NO, YES), (0, 0), (3_992_011, 3_992_346))):
+            ends = rules.ends(times, first, second)[0]
+            self.assertEqual(ends, Ends(lower, upper, None))
+        both = rules.ends(times, (YES, UNDECIDED), (NO, YES))[1]
+        self.assertEqual(both, Ends((0, 0), (BILLION, BILLION), None))
+
+    def test_first_time_0(self):
+        """`V 0 t` is `U t`: ends, depth and width, whatever the operands are."""
+        random = Random(64)
+        for _ in range(60):
+            chain = random_chain(random)
+            hundredths, rules = random_hundredths(random, chain), Rules(chain)
+            vectors = [tuple(random.choice(WORDS) for _ in range(chain.states)) for _ in range(2)]
+            self.assertEqual(rules.ends(between(0, hundredths), *vectors), Rules(chain).ends(path(hundredths), *vectors))
+            self.assertEqual(rules.depth(between(0, hundredths)), rules.depth(path(hundredths)))
+
+    def test_nearest_pair_is_always_left(self):
+        random = Random(65)
+        for _ in range(60):
+            chain = random_chain(random)
+            vectors = [tuple(random.choice(WORDS) for _ in range(chain.states)) for _ in range(2)]
+            for ends in Rules(chain).ends(between(*random_times(random, chain)), *vectors):
+                self.assertTrue(has(ends, ends.lower[1], ends.upper[0]))
+                self.assertTrue(has(ends, ends.lower[0], ends.upper[0]))
+                self.assertTrue(has(ends, ends.lower[1], ends.upper[1]))
+
+    def test_no_reading_lies_outside(self):
+        """Whatever reading the undecided states have, its quotients at some pairs of depths lie within the widest ends."""
+        random = Random(66)
+        for _ in range(25):
+            chain = random_chain(random, states=random.randint(2, 3), greatest=5_000)
+            times = 1 + random.randrange(5 * HOUR), 8 * HOUR
+            vectors = [tuple(random.choice(WORDS) for _ in range(chain.states)) for _ in range(2)]
+            every, asked = Rules(chain).ends(between(*times), *vectors), between(*times)
+            for first, second in product(*map(readings, vectors)):
+                values = pair_quotients(chain, first, second, asked.phases, (42, 42))
+                self.assertTrue(all(ends.lower[1] <= BILLION * value <= ends.upper[0] for ends, value in zip(every, values)))
 
 
 def exactly(lower, upper, width=1):

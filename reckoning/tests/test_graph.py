@@ -7,11 +7,11 @@ from random import Random
 from reckoning.bracket import Run, reaching
 from reckoning.chain import Chain, next_chances, until
 from reckoning.ends import Rules, verdicts
-from reckoning.formula import COMPARISONS, Next, P, Tt, Until
+from reckoning.formula import COMPARISONS, Between, Next, P, Tt, Until
 from reckoning.graph import decided, holds, next_certain, next_possible, until_certain, until_possible
 from reckoning.limits import BILLION, HOUR, MOST_HUNDREDTHS, MOST_RATE
 from reckoning.tests.chains import random_chain, random_hundredths, reading, row
-from reckoning.verdict import NO, UNDECIDED, WORDS, YES, negate
+from reckoning.verdict import NO, UNDECIDED, WORDS, YES, negate, of_ends
 
 
 def chain(states, *moves):
@@ -165,6 +165,21 @@ class Verdicts(unittest.TestCase):
         self.assertEqual(self.said(of, b">", 0, path, operand), (YES, NO, YES))
         self.assertEqual(self.said(of, b">=", BILLION, path, operand), (NO, NO, YES))
 
+    def test_between(self):
+        """Two phases are left to their ends; with the first time 0 it is until, with no second time either."""
+        of, operands = chain(3, (0, 1), (2, 0)), (words(at(3, 0)), words(at(3, 1)))
+        for comparison, threshold in product(COMPARISONS, (0, BILLION)):
+            for times in ((1, 1), (1, HOUR), (HOUR, HOUR)):
+                node = P(comparison, threshold, Between(*times, Tt(), Tt()))
+                self.assertIsNone(decided(of, node, operands))
+                by_ends = tuple(verdicts(node, ends) for ends in Rules(of).ends(node.path, *operands))
+                self.assertEqual(Rules(of).verdicts(node, *operands), by_ends)
+                self.assertEqual(Rules(of).following(node, operands, [(0, 1)] * 3), tuple(of_ends(comparison, threshold, 0, 1) for _ in range(3)))
+            for latest in (0, HOUR):
+                both = (self.said(of, comparison, threshold, each, *operands) for each in (Between(0, latest, Tt(), Tt()), Until(latest, Tt(), Tt())))
+                self.assertEqual(*both)
+        self.assertEqual(self.said(of, b">", 0, Between(0, HOUR, Tt(), Tt()), *operands), (YES, YES, NO))
+
     def test_other_thresholds(self):
         operands = words(at(2, 0)), words(at(2, 1))
         for threshold in (1, 2, 500_000_000, BILLION - 1):
@@ -198,7 +213,7 @@ class Chances(unittest.TestCase):
             of = random_chain(random)
             (first, second), hundredths = reading(of), random_hundredths(random, of)
             run = Run(of, until(first, second, hundredths)).to(of.states + 40)
-            chances = [run.quotient(s) for s in range(of.states)]
+            chances = run.quotients()
             self.assertEqual(until_possible(of, hundredths, first, second), tuple(chance > 0 for chance in chances))
             self.assertEqual(until_certain(second), tuple(chance == 1 for chance in chances))
             seen.update((chance > 0) + (chance == 1) for chance in chances)

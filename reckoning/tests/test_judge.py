@@ -13,8 +13,8 @@ from reckoning.judge import allowed_ends, judge
 from reckoning.limits import BILLION, MOST_HUNDREDTHS, MOST_LEVELS, MOST_RATE
 from reckoning.refusal import lengths
 from reckoning.report import Row, read_report, report_text, worst_first
-from reckoning.sheets import (FAST_MOVES, FORMULA, FULL_MOVES, HOURS_8, HOURS_8_REPORT, LABELS, MOVES, NO_MOVES, REPORT, REPORT_LINE, labels_text,
-                              moves_text, until)
+from reckoning.sheets import (FAST_MOVES, FORMULA, FULL_MOVES, HOURS_8, HOURS_8_REPORT, LABELS, MOVES, NO_MOVES, REPORT, REPORT_LINE, between,
+                              labels_text, moves_text, until)
 from reckoning.tests.chains import row, texts
 from reckoning.tests.prints import twice
 from reckoning.verdict import WORDS
@@ -186,6 +186,76 @@ class NextMove(Judged):
     def test_refusals(self):
         self.allows_whole(b"P < 1 X dead up\n", b"refused\n10\n")
         self.allows_whole(b"P < 1000000001 X dead\n", b"refused\n13\n")
+
+
+class TwoTimes(Judged):
+    """`V` at the top: 1 to 8 hours on the small sheet, where the limit is about 3,492,135.635 billionths."""
+    FORMULA = b"P < 1 V 1 8 up dead\n"
+    FIRST = REPORT_LINE + b"0,3492135,3492136,84,no\n1,0,0,84,yes\n"
+
+    def test_small_sheet(self):
+        self.allows(self.FORMULA, self.FIRST)
+        for ends in (b"3491800,3492136", b"3492135,3492471", b"3492000,3492336"):
+            self.allows(self.FORMULA, self.FIRST.replace(b"3492135,3492136", ends))
+
+    def test_altered(self):
+        """One billionth too near, too far or too wide; the depth of one phase; the first operand forgotten at state 1."""
+        for old, new in ((b"3492135,", b"3492136,"), (b",3492136", b",3492135"), (b"3492135,", b"3491799,"), (b",3492136", b",3492472"),
+                         (b"3492135,3492136", b"3491900,3492237"), (b"84", b"42"), (b"84", b"82"), (b"84,no", b"84,undecided"),
+                         (b"84,no", b"84,yes"), (b"1,0,0,84,yes", b"1,0,1,84,undecided"), (b"1,0,0,84,yes", b"1,1000000000,1000000000,84,no"),
+                         (b"3492135,3492136", b"3992010,3992011")):
+            self.assertIn(old, self.FIRST)
+            self.refuses(self.FORMULA, self.FIRST.replace(old, new))
+
+    def test_states_of_the_second_are_stepped(self):
+        """At two hours in the middle of a row that is left once an hour: held at 1 the middle state would make it 1 - 1 / e^2 and 1."""
+        (moves, _), labels, formula = texts(row(3, 1_000_000)), labels_text([b"mid"], [[0], [1], [0]]), b"P >= 500000000 V 2 2 tt mid\n"
+        right = REPORT_LINE + b"0,270670566,270670567,84,no\n1,135335283,135335284,84,no\n2,0,0,84,no\n"
+        self.allows(formula, right, moves=moves, labels=labels)
+        self.refuses(formula, right.replace(b"135335283,135335284,84,no", b"1000000000,1000000000,84,yes"), moves=moves, labels=labels)
+        self.refuses(formula, right.replace(b"270670566,270670567,84,no", b"864664716,864664717,84,yes"), moves=moves, labels=labels)
+
+    def test_first_time_0(self):
+        """It is `U`: ends, depth, point ends and what the moves decide."""
+        self.allows_whole(b"P <= 10000000 V 0 8 up dead\n", HOURS_8_REPORT)
+        self.allows_whole(b"P >= 1000000000 V 0 0 up dead\n", REPORT)
+        slow = dict(zip(("moves", "labels"), texts(row(3, 1))))
+        first = REPORT_LINE + b"0,0,1,42,%s\n1,9,10,42,yes\n2,1000000000,1000000000,42,yes\n"
+        self.allows(b"P > 0 V 0 0.01 up dead\n", first % b"yes", **slow)
+        self.refuses(b"P > 0 V 0 0.01 up dead\n", first % b"undecided", **slow)
+
+    def test_the_moves_decide_nothing(self):
+        """Possible, and under a billionth: with two phases the ends say undecided, and yes does not follow from them."""
+        slow = dict(zip(("moves", "labels"), texts(row(3, 1))))
+        first = REPORT_LINE + b"0,0,1,84,%s\n1,9,10,84,yes\n2,0,0,84,no\n"
+        self.allows(b"P > 0 V 0.01 0.02 up dead\n", first % b"undecided", **slow)
+        for word in (b"yes", b"no"):
+            self.refuses(b"P > 0 V 0.01 0.02 up dead\n", first % word, **slow)
+        told = faults(b"P > 0 V 0.01 0.02 up dead\n", twice(first % b"yes"), **slow)
+        self.assertEqual(told, ["state 0: verdict yes does not follow from the ends"])
+        sure = REPORT_LINE + b"0,3992010,3992011,84,no\n1,%s,84,%s\n"
+        for ends, word, good in ((b"1000000000,1000000000", b"yes", True), (b"999999999,1000000000", b"undecided", True),
+                                 (b"999999999,1000000000", b"yes", False), (b"999999663,1000000000", b"undecided", False),
+                                 (b"999999999,999999999", b"no", False)):
+            (self.allows if good else self.refuses)(b"P >= 1000000000 V 1 8 tt dead\n", sure % (ends, word))
+
+    def test_no_moves(self):
+        """q = 0: exact ends at depth 80."""
+        labels = labels_text([b"up", b"dead"], [(1, 1), (0, 1), (1, 0), (0, 0)])
+        first = REPORT_LINE + b"0,1000000000,1000000000,80,yes\n1,0,0,80,no\n2,0,0,80,no\n3,0,0,80,no\n"
+        self.allows(b"P > 5 V 1 2 up dead\n", first, moves=NO_MOVES, labels=labels)
+        for old, new in ((b"1,0,0,80,no", b"1,1000000000,1000000000,80,yes"), (b"2,0,0,", b"2,0,1,"), (b"0,1000000000,", b"0,999999999,")):
+            self.refuses(b"P > 5 V 1 2 up dead\n", first.replace(old, new), moves=NO_MOVES, labels=labels)
+
+    def test_refusals(self):
+        for formula, number in ((between(800, 100), 16), (between(800, MOST_HUNDREDTHS + 1), 13), (between(MOST_HUNDREDTHS + 1, 100), 13),
+                                (b"P < 1 V 1 up dead\n", 10)):
+            self.allows_whole(formula, b"refused\n%d\n" % number)
+            self.refuses_whole(formula, b"refused\n14\n")
+        self.allows_whole(between(200, 200), b"refused\n14\n", moves=FULL_MOVES)
+        self.allows_whole(between(200, 100), b"refused\n16\n", moves=FULL_MOVES)
+        allowed = allowed_ends(FULL_MOVES, LABELS, between(100, 200))
+        self.assertEqual((allowed.depth, allowed.width), (336, 1_344))
 
 
 class SecondListing(Judged):

@@ -6,7 +6,7 @@ import tempfile
 import unittest
 from pathlib import Path
 
-from reckoning.sheets import HOURS_8, HOURS_8_REPORT, LABELS, MOVES
+from reckoning.sheets import HOURS_8, HOURS_8_REPORT, LABELS, MOVES, labels_text, moves_text
 
 ROOT = Path(__file__).resolve().parents[2]
 SHEET = dict(moves=MOVES, labels=LABELS, formula=HOURS_8)
@@ -42,3 +42,18 @@ class Commands(unittest.TestCase):
             "depth 42, width 168",
             "0: lower 3991843 to 3992010, upper 3992011 to 3992178, yes",
             "1: lower 1000000000 to 1000000000, upper 1000000000 to 1000000000, no"]))
+
+    def test_ends_of_two_phases(self):
+        status, told = self.run_with("ends", moves=MOVES, labels=LABELS, formula=b"P < 1 V 1 8 up dead\n")
+        self.assertEqual((status, told.splitlines()), (0, [
+            "depth 84, width 336",
+            "0: lower 3491800 to 3492135, upper 3492136 to 3492471, no",
+            "1: lower 0 to 0, upper 0 to 0, yes"]))
+        self.assertEqual(self.run_with("ends", moves=MOVES, labels=LABELS, formula=b"P < 1 V 8 1 up dead\n"), (0, "refused 16\n"))
+
+    def test_cannot_tell(self):
+        """The limit at state 0 is a half, a whole number of billionths, which going deeper does not show."""
+        moves = moves_text([(0, 1, 1_000_000), (0, 2, 1_000_000), (1, 3, 2_000_000)])
+        labels = labels_text([b"dead"], [[0], [1], [1], [0]])
+        status, told = self.run_with("ends", moves=moves, labels=labels, formula=b"P < 1 V 0.5 0.5 tt dead\n")
+        self.assertEqual((status, told), (2, "cannot tell: quotients of two phases that seem to end at a whole billionth\n"))

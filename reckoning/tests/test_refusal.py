@@ -2,11 +2,11 @@
 
 import unittest
 
-from reckoning.formula import Label, Next, P, hours_text, nodes
+from reckoning.formula import Between, Label, Next, P, hours_text, nodes
 from reckoning.limits import (BILLION, FORMULA_BYTES, HOUR, MOST_HUNDREDTHS, MOST_LETTERS, MOST_LEVELS, MOST_MOVES, MOST_NAMES, MOST_NODES, MOST_RATE,
                               MOST_RATE_HUNDREDTHS, MOST_STATES, SHEET_BYTES)
-from reckoning.refusal import TESTS, Lent, lengths, needed, refusal
-from reckoning.sheets import FULL_MOVES, LABELS, MOVES, MOVES_LINE, NO_MOVES, labels_text, moves_text, until
+from reckoning.refusal import BY_TEXTS, TESTS, Lent, lengths, needed, refusal
+from reckoning.sheets import FULL_MOVES, LABELS, MOVES, MOVES_LINE, NO_MOVES, between, labels_text, moves_text, until
 
 FORMULA = b"P >= 5 U 8 up dead\n"
 OVER_HOURS = until(MOST_HUNDREDTHS + 1)
@@ -37,7 +37,9 @@ class Refusals(unittest.TestCase):
                 self.assertEqual(answer(**parts), number)
 
     def test_order(self):
-        self.assertEqual([number for number, _ in TESTS], [number for number in range(1, 16) if number != 7])
+        """7 is never given, and 16 is tested after 13 and before 14."""
+        self.assertEqual([number for number, _ in TESTS], [1, 2, 3, 4, 5, 6, 8, 9, 10, 11, 12, 13, 16, 14, 15])
+        self.assertEqual(BY_TEXTS, {1, 2, 3, 4, 5, 6, 8, 9, 10, 11, 12, 13, 14, 16})
 
     def test_table(self):
         one = b"state,up\n"
@@ -154,6 +156,63 @@ class Refusals(unittest.TestCase):
         deep = b"P < 1 X " * (MOST_LEVELS - 1)
         self.check([(0, dict(formula=deep + b"up\n")), (11, dict(formula=deep + b"! up\n")), (11, dict(formula=b"P < 1 X " * MOST_LEVELS + b"up\n"))])
         self.assertEqual(needed(refusal(MOVES, LABELS, deep + b"up\n")).marks, 2 * MOST_LEVELS)
+
+    def test_between(self):
+        """`V`, two times as hours are, and two state formulas, behind `P` alone."""
+        broken = [b"P < 1 V 1 up dead\n", b"P < 1 V up dead\n", b"P < 1 V 1 8 up\n", b"P < 1 V 1 8\n", b"P < 1 V 1\n", b"P < 1 V\n",
+                  b"V 1 8 up dead\n", b"P < 1 V 1 8 up dead up\n", b"P < 1 V 1 8 9 up dead\n", b"P < 1 v 1 8 up dead\n",
+                  b"P < 1 VV 1 8 up dead\n", b"P < 1 V 1  8 up dead\n", b"P < 1 V 1,8 up dead\n", b"P < 1 V up 1 8 dead\n",
+                  b"P < 1 V 1 up 8 dead\n", b"P V 1 8 up dead\n", b"P < V 1 8 up dead\n", b"P < 1.5 V 1 8 up dead\n",
+                  b"P < 1 U 1 8 up dead\n", b"P < 1 X 1 8 up dead\n", b"P < 1 U V 1 8 up dead\n", b"! V 1 8 up dead\n"]
+        for typed in (b"8.50", b"8.0", b"8.", b".5", b"00.5", b"01", b"8.125", b"8.2.5", b"x", b"-1", b"", b"10000000000"):
+            broken += [b"P < 1 V %s 9 up dead\n" % typed, b"P < 1 V 1 %s up dead\n" % typed]
+        good = [b"P < 1 V 1 8 up dead\n", b"P < 1 V 0 0 up dead\n", b"P < 1 V 0 8 up dead\n", b"P < 1 V 8 8 up dead\n",
+                b"P < 1 V 0.05 8.25 up dead\n", b"P < 1 V 8759.99 8760 up dead\n", b"P < 1 V 0.01 0.01 up dead\n",
+                b"! P > 5 V 1 8 & up ! dead tt\n", b"P < 1 V 1 8 P < 1 V 2 3 up dead up\n",
+                b"P < 1 U 8 P < 1 V 1 2 up dead P < 1 X dead\n", b"P < 1 X P <= 1000000000 V 1 2 up dead\n"]
+        self.check([(10, dict(formula=text)) for text in broken] + [(0, dict(formula=text)) for text in good])
+        tree = refusal(MOVES, LABELS, b"P < 1 V 0.05 8.25 up dead\n").tree
+        self.assertEqual(nodes(tree), [P(b"<", 1, Between(5, 825, Label(b"up"), Label(b"dead"))), Label(b"up"), Label(b"dead")])
+
+    def test_phases(self):
+        """Two, but for the first time 0; equal times are two phases, the later one of no time."""
+        for times, phases in (((100, 800), (100, 700)), ((0, 800), (800,)), ((0, 0), (0,)), ((800, 800), (800, 0)), ((1, 2), (1, 1))):
+            path = refusal(MOVES, LABELS, between(*times)).tree.path
+            self.assertEqual((path.times, path.phases), (times, phases))
+
+    def test_numbers_of_between(self):
+        """13 tests the threshold and both times, 16 whether they fall; each is put to the whole formula before the next."""
+        top, falling, over = MOST_HUNDREDTHS, b"P < 1 V 8 1 up dead", b"P < 1 V 8761 1 up dead"
+        self.check([(13, dict(formula=text)) for text in (
+            between(top + 1, top + 1), between(1, top + 1), between(top + 1, 1), between(0, top + 1), between(top + 1, 0),
+            b"P < 1000000001 V 1 8 up dead\n", b"P < 1000000001 V 8 1 up dead\n", b"P < 1 V 9999999999.99 1 up dead\n",
+            over + b"\n", b"& " + falling + b" " + over + b"\n", b"P < 1 V 8 1 up " + over + b"\n")])
+        self.check([(16, dict(formula=text)) for text in (
+            falling + b"\n", between(2, 1), between(1, 0), between(top, top - 1), between(top, 0), b"! " + falling + b"\n",
+            b"P < 1 X " + falling + b"\n", b"& P < 1 U 5 up dead P < 1 V 3 1 up dead\n", b"P < 1 V 1 8 up " + falling + b"\n")])
+        self.check([(12, dict(formula=b"P < 1 V 8 1 gas dead\n")), (10, dict(formula=b"P < 1 V 8 1 up\n")),
+                    (16, dict(moves=NO_MOVES, formula=falling + b"\n")), (16, dict(formula=falling + b"\n", lent=(0,) * len(Lent._fields)))])
+        self.check([(16, dict(moves=FULL_MOVES, formula=text)) for text in (
+            falling + b"\n", b"& P < 1 U 2 up dead " + falling + b"\n", b"P < 1 V 2 2 up " + falling + b"\n")])
+
+    def test_load_of_between(self):
+        """14 tests each phase by itself: q 64,000,000 has an hour for each, and `V 0 t` is `U t`."""
+        def job(earliest, latest, rate=MOST_RATE):
+            return dict(moves=moves_text([(0, 1, rate)]), formula=between(earliest, latest))
+        self.check([(0, job(HOUR, 2 * HOUR)), (14, job(HOUR, 2 * HOUR + 1)), (14, job(HOUR + 1, 2 * HOUR)), (14, job(HOUR + 1, HOUR + 1)),
+                    (0, job(HOUR, HOUR)), (0, job(1, HOUR + 1)), (14, job(1, HOUR + 2)), (0, job(0, HOUR)), (14, job(0, HOUR + 1)),
+                    (14, job(0, 2 * HOUR)), (0, job(0, 0))])
+        most = MOST_RATE_HUNDREDTHS // 1_517
+        self.check([(0, job(1_517, 3_034, most)), (14, job(1_517, 1_517, most + 1)), (14, job(1, 1_518, most + 1)),
+                    (0, job(1_516, 3_032, most + 1))])
+        inner = between(HOUR, 2 * HOUR + 1)
+        self.check([(14, dict(moves=FULL_MOVES, formula=about + inner)) for about in (b"P < 1 V 1 2 up ", b"P < 1 X ")])
+
+    def test_nodes_and_levels_of_between(self):
+        deep = b"P < 1 V 1 8 up "
+        self.check([(0, dict(formula=deep * (MOST_LEVELS - 1) + b"up\n")), (11, dict(formula=deep * (MOST_LEVELS - 1) + b"! up\n")),
+                    (11, dict(formula=b"P < 1 V 8 1 up " * MOST_LEVELS + b"up\n"))])
+        self.assertEqual(needed(refusal(MOVES, LABELS, deep * (MOST_LEVELS - 1) + b"up\n")).marks, 2 * (2 * MOST_LEVELS - 1))
 
     def test_moves_to_the_own_state(self):
         """They count as lines, in 6, 8 and 9's sum, and are left out of q: 14 is not for them."""

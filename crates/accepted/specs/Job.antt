@@ -22,9 +22,9 @@ pub refusal-number-some : (j : Job) (lent : Buffers ℕ) (k : ℕ) → refusal j
 unfolding refusal textTests sheetTests formulaTests every
 refusal-number-some j lent k h = ltb-true 0 k (first-number (ltb 0) (textTests j ++ (test 15 (shortBuffer j lent) ∷ [])) k refl h)
 
-pub refusal-number-most : (j : Job) (lent : Buffers ℕ) (k : ℕ) → refusal j lent ≡ some k → k ≤ 15
+pub refusal-number-most : (j : Job) (lent : Buffers ℕ) (k : ℕ) → refusal j lent ≡ some k → k ≤ 16
 unfolding refusal textTests sheetTests formulaTests every
-refusal-number-most j lent k h = leb-true k 15 (first-number (λ n. leb n 15) (textTests j ++ (test 15 (shortBuffer j lent) ∷ [])) k refl h)
+refusal-number-most j lent k h = leb-true k 16 (first-number (λ n. leb n 16) (textTests j ++ (test 15 (shortBuffer j lent) ∷ [])) k refl h)
 
 -- "7 is never given again"
 pub refusal-number-not-7 : (j : Job) (lent : Buffers ℕ) → refusal j lent ≡ some 7 → ⊥

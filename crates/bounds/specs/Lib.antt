@@ -1,4 +1,4 @@
--- Whole-number bounds of weights, step values and quotients, and the ends of an until that they give.
+-- Whole-number bounds of weights, step values and quotients, and the ends of an until, and of the phase before it, that they give.
 pub mod Exact
 pub mod Ladder
 pub mod Weight
@@ -9,12 +9,16 @@ pub mod Ends
 pub mod Upper
 pub mod Width
 pub mod StepValues
+pub mod Moved
 pub mod Rounded
 pub mod Near
 pub mod Quotient
+pub mod Shifted
 pub mod PhaseEnd
 pub mod SummedEnds
 pub mod Reading
 pub mod UntilEnds
+pub mod TwoPhases
+pub mod EarlierEnds
 pub mod Found
 pub mod WholeHours

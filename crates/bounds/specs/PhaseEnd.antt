@@ -1,12 +1,12 @@
 -- The two ends of a phase of a chain at one state, from one run of lower values that are known up to an error at step 0, for a load a / b
 -- with its greatest weight at step a / b, at the depth 2 × (a / b rounded up) + 40: the quotients from there on lie between them, and
--- they are at most 4 × D and the error apart. Assumes nothing.
+-- they are at most 2 × D and the error apart. Assumes nothing.
 use mathlib.Core.Path.{_≡_}
 use Prim.Native.Nat.{ℕ, _+_, _*_, _-_, _/_, _≤_, _<_}
 use native.Mathlib.Omega.{arith}
 use native.Mathlib.Nat.{le-of-mul-le-mul-right}
 use Rattle.numbers.specs.Hint.{le-times, div-low, div-high}
-use Rattle.csl.specs.Limits.{spareSteps, widthFactor}
+use Rattle.csl.specs.Limits.{spareSteps}
 use Rattle.csl.specs.Fraction.{Fraction, frac, Below, billionths, roundUp}
 use Rattle.csl.specs.Chain.{Chain, topRate}
 use Rattle.csl.specs.Phase.{Phase, divisor, stepTop, stepValue, quotient}
@@ -40,7 +40,7 @@ phaseUpper a b e v = upperEnd a b (a / b) (phaseDepth a b) e v
 pub record PhaseEnds (c : Chain) (ph : Phase) (a b e s lower upper : ℕ) : Type 0 where
   pub below : (n : ℕ) → phaseDepth a b ≤ n → Below (billionths lower) (quotient (frac a b) (stepValue c ph s) n)
   pub above : (n : ℕ) → phaseDepth a b ≤ n → Below (quotient (frac a b) (stepValue c ph s) n) (billionths upper)
-  pub near : upper * unit ≤ (lower + widthFactor * phaseDepth a b) * unit + e
+  pub near : upper * unit ≤ (lower + 2 * phaseDepth a b) * unit + e
 
 further-below : (x y : ℕ) (z : Fraction) → x ≤ y → Below (billionths y) z → Below (billionths x) z
 further-below x y z h k = omega (arith, le-times (z .bottom) h, k)

@@ -36,7 +36,7 @@ decided-rounds c v w d e val r =
       next = λ k s l. rw (decided-same (v s) (d s l), decided-same (w s) (e s l)) (r .next k s l);
     }
 
-factor-some : (q t : ℕ) → 0 < q * t → 0 < q
+pub factor-some : (q t : ℕ) → 0 < q * t → 0 < q
 factor-some zero t h = absurd (omega arith)
 factor-some (suc q) t h = omega arith
 
@@ -61,13 +61,13 @@ module _ (c : Chain) (t s : ℕ) (in-range : s < c .states) (small : depth c t �
   lower-small : (x y : ℕ → Bool) (val : ℕ → ℕ → ℕ) → Rounds c (untilPhase x y) val → summedLower c t val s ≤ billion
   lower-small x y val r =
       end-most (topRate c * t) rateHundredths (topRate c * t / rateHundredths) (depth c t) (λ k. val k s)
-      (λ k i. rounds-most c (untilPhase x y) val (λ u l. bit-most (y u)) r k s in-range)
+      (λ k i. rounds-most c (untilPhase x y) _ val (λ u l. omega (arith, bit-most (y u))) r k s in-range)
 
   same-upper : (ph : Phase) (val high : ℕ → ℕ → ℕ) → Rounds c ph val → Rounds c ph high → summedUpper c t val s ≡ summedUpper c t high s
   same-upper ph val high r r' =
       ap (λ (x : ℕ). billion - x)
       (left-same (topRate c * t) rateHundredths (topRate c * t / rateHundredths) (depth c t) 0 (λ k. val k s) (λ k. high k s)
-      (λ k i. rounds-same c ph val r k s in-range ∙ sym (rounds-same c ph high r' k s in-range)))
+      (λ k i. rounds-same c ph _ val r k s in-range ∙ sym (rounds-same c ph _ high r' k s in-range)))
 
   -- Of the reading with undecided as no the code takes the lower end, of that with undecided as yes the upper end; each reading is bound
   -- by both.

@@ -1,14 +1,14 @@
--- The numbers that the code of until works out, from a chain and the two operands' verdicts: rounded step values, and the two ends at one
--- state. Assumes nothing.
+-- The numbers that the code of until and of the phase before it works out, from a chain and the two operands' verdicts: rounded step values, and
+-- the two ends at one state. Assumes nothing.
 use mathlib.Core.Path.{_≡_}
-use mathlib.Core.Bool.{Bool, true, false, cond}
+use mathlib.Core.Bool.{Bool, true, false, cond, not}
 use Prim.Native.Nat.{ℕ, suc, _+_, _*_, _/_, _≤_, _<_}
 use lib.Dec.{eqb}
 use Rattle.csl.specs.Limits.{billion}
 use Rattle.csl.specs.Chain.{Chain, topRate}
 use Rattle.csl.specs.Phase.{Phase, bit, moved}
 use Rattle.csl.specs.Verdicts.{Verdict, No, Yes, Undecided, asNo, asYes}
-use Rattle.bounds.specs.Unit.{one}
+use Rattle.bounds.specs.Unit.{unit, one}
 use Rattle.bounds.specs.Ends.{lowerEnd}
 use Rattle.bounds.specs.Upper.{upperEnd}
 -- the verdict of a byte, for those that build on this crate
@@ -20,11 +20,22 @@ settled true nil x = one
 settled false true x = 0
 settled false false x = x
 
--- the step values of a phase whose whole is 1, each step's rounded down from those of the step before; val k s is that of state s at
--- step k
-pub record Rounds (c : Chain) (ph : Phase) (val : ℕ → ℕ → ℕ) : Type 0 where
-  pub start : (s : ℕ) → s < c .states → val 0 s ≡ one * ph .start s
+-- step values that start from x, each step's rounded down from those of the step before, and held where the phase holds them; val k s is that of
+-- state s at step k
+pub record RoundsFrom (c : Chain) (ph : Phase) (x : ℕ → ℕ) (val : ℕ → ℕ → ℕ) : Type 0 where
+  pub start : (s : ℕ) → s < c .states → val 0 s ≡ x s
   pub next : (k s : ℕ) → s < c .states → val (suc k) s ≡ settled (ph .one s) (ph .nil s) (moved c (val k) s / topRate c)
+
+-- those of a phase whose whole is 1
+abbrev pub Rounds : Chain → Phase → (val : ℕ → ℕ → ℕ) → Type 0
+Rounds c ph val = RoundsFrom c ph (λ s. one * ph .start s) val
+
+-- a phase that starts from x billionths where the first operand holds and 0 elsewhere, and holds 0 where it fails; and its values
+abbrev pub startedPhase : (first : ℕ → Bool) → (x : ℕ → ℕ) → Phase
+startedPhase first x = record { whole = billion; start = λ s. cond (first s) (x s) 0; one = λ s. false; nil = λ s. not (first s) }
+
+abbrev pub StartedRounds : Chain → (first : ℕ → Bool) → (x : ℕ → ℕ) → (val : ℕ → ℕ → ℕ) → Type 0
+StartedRounds c first x val = RoundsFrom c (startedPhase first x) (λ s. unit * cond (first s) (x s) 0) val
 
 -- lower values of any phase: those of step 0 at most e units below the exact ones, and then each step's rounded down from those of the
 -- step before
@@ -50,3 +61,12 @@ untilLowerOf a b d v w low = pointed v w (cond (eqb a 0) (billion * bit (asNo w)
 -- Its upper end: high k is the state's rounded value at step k with undecided operand states read as yes.
 abbrev pub untilUpperOf : (a b d : ℕ) → Verdict → Verdict → (ℕ → ℕ) → ℕ
 untilUpperOf a b d v w high = pointed v w (cond (eqb a 0) (billion * bit (asYes w)) (upperEnd a b (a / b) d 0 high))
+
+-- The two ends at a state of an until between two times, whose later phase, until over the difference, has the ends lo and up there: v is the
+-- first operand's verdict there, a / b the earlier phase's load, d its depth; low k and high k are its rounded values at step k, started from
+-- the later phase's lower ends with undecided operand states read as no, and from its upper ends with them read as yes.
+abbrev pub earlierLowerOf : (a b d : ℕ) → Verdict → (lo : ℕ) → (ℕ → ℕ) → ℕ
+earlierLowerOf a b d v lo low = cond (eqb a 0) (cond (asNo v) lo 0) (pointed v No (lowerEnd a b (a / b) d low))
+
+abbrev pub earlierUpperOf : (a b d : ℕ) → Verdict → (up : ℕ) → (ℕ → ℕ) → ℕ
+earlierUpperOf a b d v up high = cond (eqb a 0) (cond (asYes v) up 0) (pointed v No (upperEnd a b (a / b) d 0 high))

@@ -28,12 +28,12 @@ abbrev pub untilUpper : Chain → ℕ → (v w : ℕ → Verdict) (high : ℕ �
 untilUpper c t v w high s = untilUpperOf (topRate c * t) rateHundredths (depth c t) (v s) (w s) (λ k. high k s)
 
 -- no state has two verdicts
-abbrev place : Verdict → ℕ
+abbrev pub place : Verdict → ℕ
 place No = 0
 place Yes = 1
 place Undecided = 2
 
-differ : {x y z : Verdict} → x ≡ y → x ≡ z → (place y ≡ place z → ⊥) → ⊥
+pub differ : {x y z : Verdict} → x ≡ y → x ≡ z → (place y ≡ place z → ⊥) → ⊥
 differ h k n = n (ap place (sym h ∙ k))
 
 bit-small : (b : Bool) → billion * bit b ≤ billion

@@ -1,4 +1,4 @@
--- The two ends of a phase, from one run of its values, are at most 4 × D apart to depth 1023, and e units more where the values lacked e
+-- The two ends of a phase, from one run of its values, are at most 2 × D apart to depth 1023, half of what the paper allows, and e units more where the values lacked e
 -- at step 0. Assumes nothing.
 use mathlib.Core.Path.{_≡_, refl}
 use Prim.Native.Nat.{ℕ, zero, suc, _+_, _*_, _-_, _/_, _^_, _≤_, _<_}
@@ -68,17 +68,17 @@ gathered-gap w o x d zero l = omega arith
 gathered-gap w o x d (suc n) l =
     omega (arith, gathered-gap w o x d n (omega arith), term-gap (w n) o x n d (omega arith))
 
--- all roundings together are at most 4 * d billionths of the total t: w the sum of the lower weights, e what the total is above it, z of
+-- all roundings together are at most 2 * d billionths of the total t: w the sum of the lower weights, e what the total is above it, z of
 -- that dropped
 roundings : (t w d e z : ℕ) → peak ≤ t → 40 ≤ d → d ≤ mostDepth → w ≤ t → z * negligible ≤ t → e ≤ d * d + 3 * d + 1 + z
-    → 2 * unit * t + 2 * suc d * grain + w * d + one * e ≤ 4 * unit * (d * t)
+    → 2 * unit * t + 2 * suc d * grain + w * d + one * e ≤ 2 * unit * (d * t)
 roundings t w d e z p d40 deep wt zt eb = omega (arith, le-times d wt, le-times t d40, le-times d p, le-times d deep)
 
--- the two ends miss 1 by at most 4 * d billionths and x units, over variables: g and h what was gathered and what was left, y for w * x
-ends-short : (l l' g h t w d e y : ℕ) → 2 * unit * t + 2 * suc d * grain + w * d + one * e ≤ 4 * unit * (d * t)
+-- the two ends miss 1 by at most 2 * d billionths and x units, over variables: g and h what was gathered and what was left, y for w * x
+ends-short : (l l' g h t w d e y : ℕ) → 2 * unit * t + 2 * suc d * grain + w * d + one * e ≤ 2 * unit * (d * t)
     → g * scale < (l + 1) * t → h * scale < (l' + 1) * t
     → w * one ≤ (g + h + 2 * suc d) * grain + w * d + y → t ≤ w + e
-    → one * t ≤ (l + l' + 4 * d) * unit * t + y
+    → one * t ≤ (l + l' + 2 * d) * unit * t + y
 ends-short l l' g h t w d e y r i j k tw = omega arith
 
 ends-joined : (t c x y : ℕ) → one * t ≤ c * unit * t + y → y ≤ t * x → one * t ≤ (c * unit + x) * t
@@ -88,10 +88,10 @@ ends-gap : (l l' g h t w d e z x : ℕ) → peak ≤ t → 40 ≤ d → d ≤ mo
     → g * scale < (l + 1) * t → h * scale < (l' + 1) * t
     → w * one ≤ (g + h + 2 * suc d) * grain + w * d + w * x
     → w ≤ t → t ≤ w + e → z * negligible ≤ t → e ≤ d * d + 3 * d + 1 + z
-    → one ≤ (l + l' + 4 * d) * unit + x
+    → one ≤ (l + l' + 2 * d) * unit + x
 ends-gap l l' g h t w d e z x p d40 deep i j k wt tw zt eb =
     le-of-mul-le-mul-right {k = t}
-    (ends-joined t (l + l' + 4 * d) x (w * x)
+    (ends-joined t (l + l' + 2 * d) x (w * x)
     (ends-short l l' g h t w d e (w * x) (roundings t w d e z p d40 deep wt zt eb) i j k tw)
     (le-times x wt))
     (lt-of-lt-of-le (omega arith) p)
@@ -105,7 +105,7 @@ pub record Halved (a b m r : ℕ) : Type 0 where
 
 module _ {a b m r : ℕ} (x : ℕ) (v : ℕ → ℕ) (p : Halved a b m r) where
   -- the lower end and what is left of 1, whatever the values
-  short : one ≤ (lowerEnd a b m (r + 40) v + leftEnd a b m (r + 40) x v + 4 * (r + 40)) * unit + x
+  short : one ≤ (lowerEnd a b m (r + 40) v + leftEnd a b m (r + 40) x v + 2 * (r + 40)) * unit + x
   unfolding lowerEnd leftEnd gatherable total lastStep sumTo
   short =
       let deep : m ≤ r + 40 = omega (arith, p .early) in
@@ -134,5 +134,5 @@ module _ {a b m r : ℕ} (x : ℕ) (v : ℕ → ℕ) (p : Halved a b m r) where
       (omega arith)
 
   -- the two ends
-  pub width : upperEnd a b m (r + 40) x v * unit ≤ (lowerEnd a b m (r + 40) v + 4 * (r + 40)) * unit + x
+  pub width : upperEnd a b m (r + 40) x v * unit ≤ (lowerEnd a b m (r + 40) v + 2 * (r + 40)) * unit + x
   width = omega (arith, short)

@@ -25,7 +25,7 @@ use Rattle.texts.specs.Span.{spanOf}
 use Rattle.formula.specs.Listed.{stored}
 use Rattle.formula.specs.Reading.{readingOf, reading-few}
 use Rattle.formula.specs.Nodes.{kindAt}
-use Rattle.formula.specs.Stored.{formula-stored, ordered-stored, labels-tested, limits-tested, load-tested}
+use Rattle.formula.specs.Stored.{formula-stored, ordered-stored, labels-tested, limits-tested, order-tested, load-tested}
 use Rattle.decide.specs.Asked.{NodeFits}
 use Rattle.decide.specs.Fits.{nodes-fit}
 use Rattle.formula.specs.declared.nodes.Nodes.{Nodes}
@@ -143,6 +143,7 @@ module _ (j : Job) (d : Dimensions) (r : SheetReady j d) where
             (ordered-stored (namesOf (j .labels)) (jobFormula j) (good .fitting .known-labels))
             (labels-tested (namesOf (j .labels)) (jobFormula j) ∙ good .fitting .known-labels)
             (limits-tested (namesOf (j .labels)) (jobFormula j) ∙ good .fitting .bounds)
+            (order-tested (namesOf (j .labels)) (jobFormula j) ∙ good .fitting .times-in-order)
             (load-tested (namesOf (j .labels)) (jobFormula j) (topRate (jobChain j)) ∙ good .fitting .loads))
 
         module _ (before : Buffers (List ℕ)) {b : Bool} (s : b ≡ isShort (lengths before) (needed (d .states) (d .moves) (x .count))) where

@@ -2,7 +2,7 @@
 -- the outermost node the report's own." By recursion on the formula: each node has the backings of its operands. Assumes nothing.
 use mathlib.Core.Path.{_≡_}
 use Prim.Native.Nat.{ℕ, _<_}
-use Rattle.csl.specs.Formula.{Formula, always, label, negated, both, chance, Path, until, nextMove, PathOf, untilOf, nextOf, Comparison}
+use Rattle.csl.specs.Formula.{Formula, always, label, negated, both, chance, Path, until, nextMove, between, PathOf, untilOf, nextOf, betweenOf, Comparison}
 use Rattle.csl.specs.Chain.{Chain}
 use Rattle.csl.specs.Verdicts.{Verdict, Yes, marked, negation, conjunction}
 use Rattle.csl.specs.Path.{FollowsAt, SidesAt, AllDecided}
@@ -64,11 +64,13 @@ abbrev mutual
   pub PathBacked : Chain → Path → (PathOf (ℕ → Verdict) → Type 0) → Type 0
   PathBacked c (until t a b) K = TwoBacked (λ x. Backed c a x) (λ x. Backed c b x) λ v w. K (untilOf t v w)
   PathBacked c (nextMove a) K = OneBacked (λ x. Backed c a x) λ v. K (nextOf v)
+  PathBacked c (between t u a b) K = TwoBacked (λ x. Backed c a x) (λ x. Backed c b x) λ v w. K (betweenOf t u v w)
 
 -- the operands' verdicts
 abbrev pub operandsOf : (c : Chain) (w : Path) (K : PathOf (ℕ → Verdict) → Type 0) → PathBacked c w K → PathOf (ℕ → Verdict)
 operandsOf c (until t a b) K k = untilOf t (k .first) (k .second)
 operandsOf c (nextMove a) K k = nextOf (k .first)
+operandsOf c (between t u a b) K k = betweenOf t u (k .first) (k .second)
 
 -- nothing is undecided, at any node and state of a backing
 unfoldable mutual
@@ -84,6 +86,8 @@ unfoldable mutual
   NothingUndecidedIn c (until t a e) K k =
       NothingUndecided c a (k .first) (k .first-backed) × NothingUndecided c e (k .second) (k .second-backed)
   NothingUndecidedIn c (nextMove a) K k = NothingUndecided c a (k .first) (k .first-backed)
+  NothingUndecidedIn c (between t u a e) K k =
+      NothingUndecided c a (k .first) (k .first-backed) × NothingUndecided c e (k .second) (k .second-backed)
 
 -- Demand 2's rule at every `P` of a backing: this node, where it is one, and every node below it
 unfoldable mutual
@@ -100,3 +104,5 @@ unfoldable mutual
   SidesThroughoutIn c (until t a e) K k =
       SidesThroughout c a (k .first) (k .first-backed) × SidesThroughout c e (k .second) (k .second-backed)
   SidesThroughoutIn c (nextMove a) K k = SidesThroughout c a (k .first) (k .first-backed)
+  SidesThroughoutIn c (between t u a e) K k =
+      SidesThroughout c a (k .first) (k .first-backed) × SidesThroughout c e (k .second) (k .second-backed)

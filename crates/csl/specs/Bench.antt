@@ -1,5 +1,6 @@
 -- Document 01's bench values, and those of the requests: the jobs, and what is said of them. `Laws.Bench` shows it. Assumes nothing.
 use mathlib.Core.Path.{_≡_}
+use mathlib.Core.Bool.{Bool, true}
 use Prim.Native.Nat.{ℕ, zero, suc, _+_, _*_, _%_, _≤_}
 use Prim.Native.String.{String}
 use mathlib.Core.List.{List, [], _∷_, _++_}
@@ -8,12 +9,13 @@ use lib.Dec.{leb, eqb}
 use lib.ListN.{replicate}
 use Rattle.csl.specs.Text.{Text, bytes}
 use Rattle.csl.specs.Limits.{mostNodes, hour, mostHundredths, mostRateHundredths, rateHundredths}
-use Rattle.csl.specs.Formula.{Formula, always, label, negated, both, chance, Path, until, nextMove, Less, AtMost, AtLeast, More}
+use Rattle.csl.specs.Formula.{Formula, always, label, negated, both, chance, Path, until, nextMove, between, Less, AtMost, AtLeast, More}
 use Rattle.csl.specs.Fraction.{Fraction, frac, Same}
 use Rattle.csl.specs.Sheet.{sheetOf}
 use Rattle.csl.specs.Chain.{Chain, chainOf}
 use Rattle.csl.specs.Verdicts.{Verdict, Yes, marked, negation}
 use Rattle.csl.specs.Until.{untilQuotient}
+use Rattle.csl.specs.Between.{betweenQuotient}
 use Rattle.csl.specs.Backing.{AtEach}
 use Rattle.csl.specs.Report.{Reported, reportText, depthOf}
 use Rattle.csl.specs.Order.{worstFirst}
@@ -226,6 +228,35 @@ pub record PossibleAndCertain : Type 0 where
   pub words-long : refusal (small "tt\n") (lengths (lentAs (7 ∷ 7 ∷ []) (7 ∷ 7 ∷ []))) ≡ none
   pub words-zero : filled 2 1 1 (λ s. s) (λ s. s) (λ s. Yes) (lentAs (7 ∷ 7 ∷ []) (7 ∷ 7 ∷ 7 ∷ [])) .moves ≡ 0 ∷ 0 ∷ 7 ∷ []
 
+-- Until between two times, over the small sheet, with q 64,000,000 and without moves.
+pub record NotBeforeAnHour : Type 0 where
+  -- "a path formula may be `V` with two times and two state formulas"; "the printed depth is their sum"
+  pub two-phases : Accepts (small "P >= 5 V 1 8 up dead\n") (chance AtLeast 5 (between hour eight up dead)) 500 84
+  pub quarters : Accepts (small "P >= 5 V 0.25 8.25 up dead\n") (chance AtLeast 5 (between 25 825 up dead)) 500 84
+  pub within-until : Accepts (small "P >= 5 U 8 up P > 5 V 1 8 up dead\n") (chance AtLeast 5 (until eight up (chance More 5 (between hour eight up dead)))) 500 42
+  pub around-until : Accepts (small "P > 5 V 1 8 up P < 5 U 8 up dead\n") (chance More 5 (between hour eight up (chance Less 5 (until eight up dead)))) 500 84
+  pub one-time : Refuses (small "P < 1 V 8 up dead\n") 10
+  pub one-operand : Refuses (small "P < 1 V 1 8 dead\n") 10
+  -- "With the first time 0 it is `U` with the second", in depth and in 14
+  pub first-time-0 : Accepts (small "P >= 5 V 0 8 up dead\n") (chance AtLeast 5 (between 0 eight up dead)) 500 42
+  pub over-load-from-0 : Refuses (fast "P >= 5 V 0 1.01 up dead\n") 14
+  -- equal times above 0 are two phases too, the later of load 0
+  pub equal-times : Accepts (small "P >= 5 V 8 8 up dead\n") (chance AtLeast 5 (between eight eight up dead)) 500 82
+  -- 13 tests both times; "16 when the first time exceeds the second, tested after 13 and before 14", on the whole formula
+  pub first-time-over : Refuses (small "P < 1 V 9000 1 up dead\n") 13
+  pub second-time-over : Refuses (small "P < 1 V 1 9000 up dead\n") 13
+  pub first-exceeds-second : Refuses (small "P < 1 V 8 1 up dead\n") 16
+  pub before-14 : Refuses (fast "& P < 1 U 5 up dead P < 1 V 3 1 up dead\n") 16
+  -- "14 tests each phase"
+  pub full-loads : Accepts (fast "P >= 5 V 1 2 up dead\n") (chance AtLeast 5 (between hour (2 * hour) up dead)) 64000000 336
+  pub earlier-over-load : Refuses (fast "P >= 5 V 1.01 1.5 up dead\n") 14
+  pub later-over-load : Refuses (fast "P >= 5 V 1 2.01 up dead\n") 14
+  -- "both 0 where the first operand is no, and exact ends with q = 0": dead from the start, and not before
+  pub no-moves : Accepts (still "P >= 5 V 1 8 tt dead\n") (chance AtLeast 5 (between hour eight always dead)) 0 80
+  pub no-moves-printed : Prints (still "P >= 5 V 1 8 tt dead\n")
+      "0,0,0,80,no\n1,1000000000,1000000000,80,yes\n" "1,1000000000,1000000000,80,yes\n0,0,0,80,no\n"
+  pub first-operand-fails : Prints (still "P >= 5 V 1 8 up dead\n") "0,0,0,80,no\n1,0,0,80,no\n" "0,0,0,80,no\n1,0,0,80,no\n"
+
 -- "`P <= 10000000 U 8 up dead`: .. lower ≤ 3,992,010, upper ≥ 3,992,011, width ≤ 168, yes at state 0", of every report
 pub record EightHours (lower upper : ℕ → ℕ) (v : ℕ → Verdict) : Type 0 where
   pub low : lower 0 ≤ 3992010
@@ -233,8 +264,8 @@ pub record EightHours (lower upper : ℕ → ℕ) (v : ℕ → Verdict) : Type 0
   pub narrow : upper 0 ≤ lower 0 + 168
   pub verdict : v 0 ≡ Yes
 
--- Beside the paper's values: a sheet of three states with unequal exit rates, and its quotients for `U 5000 up dead` at depth 9, from the
--- second reckoning in big fractions.
+-- Beside the paper's values: a sheet of three states with unequal exit rates, and its quotients for `U 5000 up dead` at depth 9 and for
+-- `V 2000 5000 up dead` and `V 2000 5000 tt dead` at the depths 5 and 6, from the second reckoning in big fractions.
 abbrev pub trialChain : Chain
 trialChain =
     chainOf (sheetOf (bytes "from,to,rate\n0,1,300\n0,2,200\n1,0,100\n2,1,50\n") (bytes "state,up,dead\n0,1,0\n1,1,0\n2,0,1\n"))
@@ -242,7 +273,16 @@ trialChain =
 abbrev pub trialQuotient : ℕ → Fraction
 trialQuotient s = untilQuotient trialChain (5000 * hour) (trialChain .mark (bytes "up")) (trialChain .mark (bytes "dead")) s 9
 
+abbrev pub trialPair : (first : ℕ → Bool) → ℕ → Fraction
+trialPair first s = betweenQuotient trialChain (2000 * hour) (5000 * hour) first (trialChain .mark (bytes "dead")) s 5 6
+
 pub record TrialQuotients : Type 0 where
   pub state-0 : Same (trialQuotient 0) (frac 914845826 2262813335)
   pub state-1 : Same (trialQuotient 1) (frac 249172128 2262813335)
   pub state-2 : Same (trialQuotient 2) (frac 1 1)
+  pub pair-0 : Same (trialPair (trialChain .mark (bytes "up")) 0) (frac 26756233364484 182459716796875)
+  pub pair-1 : Same (trialPair (trialChain .mark (bytes "up")) 1) (frac 15011854669806 182459716796875)
+  pub pair-2 : Same (trialPair (trialChain .mark (bytes "up")) 2) (frac 0 1)
+  pub pair-tt-0 : Same (trialPair (λ s. true) 0) (frac 1141034284277029 2919355468750000)
+  pub pair-tt-1 : Same (trialPair (λ s. true) 1) (frac 158947604640701 1459677734375000)
+  pub pair-tt-2 : Same (trialPair (λ s. true) 2) (frac 10658353744515961 11677421875000000)

@@ -12,7 +12,7 @@ use Rattle.csl.specs.Number.{isNumber, valueOf}
 use Rattle.csl.specs.Line.{space, parts, linesOf, firstLine, isEnded}
 use Rattle.csl.specs.Labels.{isWord}
 use Rattle.csl.specs.Hours.{hundredthsOf}
-use Rattle.csl.specs.Formula.{Formula, always, label, negated, both, chance, until, nextMove, Comparison, Less, AtMost, AtLeast, More}
+use Rattle.csl.specs.Formula.{Formula, always, label, negated, both, chance, until, nextMove, between, Comparison, Less, AtMost, AtLeast, More}
 
 unfoldable pub tokensOf : Text → List Text
 tokensOf text = parts space (firstLine text)
@@ -54,15 +54,18 @@ pair read make ts = andThen (read ts) λ a more. andThen (read more) λ b rest. 
 
 -- how a path formula begins
 pub data PathHead : Type 0 where
-  untils nexts noPath : PathHead
+  untils nexts betweens noPath : PathHead
 
 unfoldable pub pathHeadOf : Text → PathHead
-pathHeadOf w = cond (same w (bytes "U")) untils (cond (same w (bytes "X")) nexts noPath)
+pathHeadOf w = cond (same w (bytes "U")) untils (cond (same w (bytes "X")) nexts (cond (same w (bytes "V")) betweens noPath))
 
--- "A path formula is `U`, .. hours and two state formulas"; "a path formula may also be `X` and a state formula".
+-- "A path formula is `U`, .. hours and two state formulas"; "a path formula may also be `X` and a state formula"; "a path formula may be `V` with
+-- two times and two state formulas".
 unfoldable pub pathBehind : Reader → Comparison → ℕ → PathHead → Reader
 pathBehind read r p untils ts = onToken hundredthsOf ts λ t rest. pair read (λ a b. chance r p (until t a b)) rest
 pathBehind read r p nexts ts = single read (λ a. chance r p (nextMove a)) ts
+pathBehind read r p betweens ts =
+    onToken hundredthsOf ts λ t more. onToken hundredthsOf more λ u rest. pair read (λ a b. chance r p (between t u a b)) rest
 pathBehind read r p noPath ts = nothing
 
 unfoldable pub path : Reader → Comparison → ℕ → Reader
@@ -121,3 +124,7 @@ pub data Spells : Formula → List Text → Type 0 where
   spells-next : {a : Formula} {s : List Text} (sign threshold : Text) (r : Comparison) (p : ℕ)
       → comparisonOf sign ≡ some r → numberOf threshold ≡ some p → Spells a s
       → Spells (chance r p (nextMove a)) (bytes "P" ∷ sign ∷ threshold ∷ bytes "X" ∷ s)
+  spells-between : {a b : Formula} {s t : List Text} (sign threshold earlier later : Text) (r : Comparison) (p u v : ℕ)
+      → comparisonOf sign ≡ some r → numberOf threshold ≡ some p → hundredthsOf earlier ≡ some u → hundredthsOf later ≡ some v
+      → Spells a s → Spells b t
+      → Spells (chance r p (between u v a b)) (bytes "P" ∷ sign ∷ threshold ∷ bytes "V" ∷ earlier ∷ later ∷ s ++ t)

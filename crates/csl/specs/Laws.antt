@@ -9,6 +9,7 @@ pub mod Quotient
 pub mod Next
 pub mod Point
 pub mod Readings
+pub mod Between
 pub mod Tail
 pub mod Left
 pub mod Led
@@ -18,6 +19,7 @@ pub mod Graph
 pub mod PointQuotients
 pub mod PointEnds
 pub mod NextEnds
+pub mod BetweenEnds
 pub mod OwnState
 pub mod Enclosure
 pub mod Sides
@@ -37,6 +39,7 @@ pub mod Listing
 pub mod Bench
 pub mod BenchNext
 pub mod BenchGraph
+pub mod BenchBetween
 pub mod Trial
 pub mod WholeHours
 pub mod EightHours

@@ -18,6 +18,7 @@ pub mod Graph
 pub mod Meaning
 pub mod Until
 pub mod Next
+pub mod Between
 pub mod Path
 pub mod Ends
 pub mod Backing

@@ -1,5 +1,5 @@
 -- What a path formula means: all that ends, backings, truth tables, reports and theorems ask of it, as one record. Each kind of path supplies
--- one, beside its own definitions (`Until`, `Next`); `Path` has one line for each kind. Assumes nothing.
+-- one, beside its own definitions (`Until`, `Next`, `Between`); `Path` has one line for each kind. Assumes nothing.
 use Prim.Native.Nat.{ℕ}
 use mathlib.Core.Bool.{Bool}
 use Rattle.csl.specs.Formula.{Comparison}

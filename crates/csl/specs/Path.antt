@@ -1,8 +1,8 @@
 -- What each path formula means, one line for each kind of path; and its value, point ends and verdicts for given operands. Assumes nothing.
 use mathlib.Core.Path.{_≡_}
-use Prim.Native.Nat.{ℕ}
+use Prim.Native.Nat.{ℕ, zero, suc}
 use mathlib.Core.Bool.{Bool}
-use Rattle.csl.specs.Formula.{PathOf, untilOf, nextOf, Comparison}
+use Rattle.csl.specs.Formula.{PathOf, untilOf, nextOf, betweenOf, Comparison}
 use Rattle.csl.specs.Chain.{Chain}
 use Rattle.csl.specs.Limit.{Value}
 use Rattle.csl.specs.Verdicts.{Verdict, Reading, least, most, judged, Sides}
@@ -10,11 +10,14 @@ pub use Rattle.csl.specs.Graph.{AllDecided}
 use Rattle.csl.specs.Meaning.{Meaning}
 use Rattle.csl.specs.Until.{untilMeaning}
 use Rattle.csl.specs.Next.{nextMeaning}
+use Rattle.csl.specs.Between.{betweenMeaning}
 
--- the meaning of a path on a chain
+-- the meaning of a path on a chain; of `V` "with the first time 0 it is `U` with the second"
 abbrev pub meaning : {A : Type 0} → Chain → PathOf A → Meaning A
 meaning c (untilOf t a b) = untilMeaning c t a b
 meaning c (nextOf a) = nextMeaning c a
+meaning c (betweenOf zero u a b) = untilMeaning c u a b
+meaning c (betweenOf (suc t) u a b) = betweenMeaning c (suc t) u a b
 
 -- the probability of a path at a state, where x says where its operands hold
 abbrev pub valueAt : Chain → PathOf (ℕ → Bool) → ℕ → Value
@@ -43,8 +46,11 @@ SidesAt c o r p s lower upper v = meaning c o .Follows (λ v. v) r p s v (Sides 
 abbrev pub DecidedIn : Chain → PathOf (ℕ → Verdict) → Type 0
 DecidedIn c (untilOf t v w) = AllDecided c v × AllDecided c w
 DecidedIn c (nextOf v) = AllDecided c v
+DecidedIn c (betweenOf t u v w) = AllDecided c v × AllDecided c w
 
 -- "A reading takes each operand at each state for yes or no": x is one of operands with the verdicts in o, on n states
 pub data Reads (n : ℕ) : (o : PathOf (ℕ → Verdict)) → (x : PathOf (ℕ → Bool)) → Type 0 where
   reads-until : (t : ℕ) (v w : ℕ → Verdict) (x y : ℕ → Bool) → Reading n v x → Reading n w y → Reads n (untilOf t v w) (untilOf t x y)
   reads-next : (v : ℕ → Verdict) (x : ℕ → Bool) → Reading n v x → Reads n (nextOf v) (nextOf x)
+  reads-between : (t u : ℕ) (v w : ℕ → Verdict) (x y : ℕ → Bool) → Reading n v x → Reading n w y
+      → Reads n (betweenOf t u v w) (betweenOf t u x y)

@@ -1,5 +1,6 @@
 -- Turned-back jobs: "The lowest number that holds is given; a condition is put only to jobs that passed all lower ones in all three
--- texts." Each test below is put to the whole of what it tests, and says something only of a job that passed those before it. Assumes nothing.
+-- texts." But for 16, which is tested before 14. Each test below is put to the whole of what it tests, and says something only of a job that
+-- passed those before it. Assumes nothing.
 use Prim.Native.Nat.{ℕ, _*_}
 use mathlib.Core.Bool.{Bool, true, false, cond, not, _&&_, _||_}
 use mathlib.Core.List.{List, [], _∷_, _++_}
@@ -11,7 +12,7 @@ use Rattle.csl.specs.Limits.{mostStates, mostMoves, mostRate, formulaByt
 use Rattle.csl.specs.Line.{laterLines}
 use Rattle.csl.specs.Labels.{labelsHead, labelsLayout, inTurn, statesOf}
 use Rattle.csl.specs.Moves.{Move, movesHead, movesLayout, movesOf, isRising, ratesOut}
-use Rattle.csl.specs.Formula.{Formula, always, PathOf, nodes, levels, labelsPass, timesPass, phasesPass, pathsPass}
+use Rattle.csl.specs.Formula.{Formula, always, PathOf, nodes, levels, labelsPass, timesPass, phasesPass, timesInOrder, pathsPass}
 use Rattle.csl.specs.Grammar.{readFormula}
 use Rattle.csl.specs.Sheet.{Sheet, sheetOf}
 use Rattle.csl.specs.Chain.{Chain, chainOf, topRate}
@@ -90,14 +91,18 @@ largeFormula f = ltb mostNodes (nodes f) || ltb mostLevels (levels f)
 unfoldable pub strangeLabel : List Text → Formula → Bool
 strangeLabel names f = not (labelsPass (among names) f)
 
--- 13: "threshold over 1,000,000,000 or hours over 8,760"; `X` has no hours
+-- 13: "threshold over 1,000,000,000 or hours over 8,760"; `X` has no hours, `V` two
 abbrev pub inBounds : ℕ → PathOf Formula → Bool
 inBounds p o = leb p mostThreshold && timesPass (λ t. leb t mostHundredths) o
 
 unfoldable pub wrongBound : Formula → Bool
 wrongBound f = not (pathsPass inBounds f)
 
--- 14: "q × t over 64,000,000 for some until"; "14 compares q × hundredths with 6,400,000,000"
+-- 16: "when the first time exceeds the second, tested after 13 and before 14"
+unfoldable pub wrongTimes : Formula → Bool
+wrongTimes f = not (pathsPass (λ p o. timesInOrder o) f)
+
+-- 14: "q × t over 64,000,000 for some until"; "14 compares q × hundredths with 6,400,000,000"; "14 tests each phase"
 abbrev pub inLoad : ℕ → ℕ → PathOf Formula → Bool
 inLoad q p o = phasesPass (λ t. leb (q * t) mostRateHundredths) o
 
@@ -127,7 +132,7 @@ sheetTests moves labels =
 unfoldable pub formulaTests : List Text → ℕ → Option Formula → List Test
 formulaTests names q o =
     test 10 (isMissing o) ∷ test 11 (largeFormula (formulaFrom o)) ∷ test 12 (strangeLabel names (formulaFrom o))
-    ∷ test 13 (wrongBound (formulaFrom o)) ∷ test 14 (highLoad q (formulaFrom o)) ∷ []
+    ∷ test 13 (wrongBound (formulaFrom o)) ∷ test 16 (wrongTimes (formulaFrom o)) ∷ test 14 (highLoad q (formulaFrom o)) ∷ []
 
 -- those of a job's three texts: 1 is put to all three of them first
 unfoldable pub textTests : Job → List Test

@@ -3,41 +3,46 @@
 use mathlib.Core.Path.{_≡_, refl}
 use mathlib.Core.Bool.{Bool, true, false, cond}
 use mathlib.Core.Logic.{_⊎_}
-use Prim.Native.Nat.{ℕ, suc, _+_, _*_, _≤_, _<_}
+use Prim.Native.Nat.{ℕ, suc, _+_, _*_, _-_, _≤_, _<_}
 use mathlib.Core.List.{List}
 use mathlib.Core.Option.{none, some}
 use lib.Dec.{leb, eqb}
+use borrow.Author.Tests.{le-leb}
 use lib.ListN.{length}
 use native.Mathlib.Omega.{arith}
 use Rattle.csl.specs.Text.{Text, any}
 use Rattle.csl.specs.Limits.{billion, formulaDigits, hour, mostHundredths, mostRateHundredths, widthFactor, spareSteps}
 use Rattle.csl.specs.Number.{isNumber, valueOf}
 use Rattle.csl.specs.Hours.{point, hundredthsOf}
-use Rattle.csl.specs.Formula.{Formula, chance, Path, until, nextMove, PathOf, untilOf, nextOf, Comparison, Less, AtMost, AtLeast, More}
+use Rattle.csl.specs.Formula.{nodes, nodesIn, levels, levelsIn, labelsPass, labelsPassIn, pathsPass, pathsPassIn}
+use Rattle.csl.specs.Formula.{Formula, chance, Path, until, nextMove, between, PathOf, untilOf, nextOf, betweenOf, twoPhases, Comparison, Less, AtMost, AtLeast, More}
 use Rattle.csl.specs.Grammar.{readState, whole, Spells}
 use Rattle.csl.specs.Fraction.{frac, IsFraction, Below, Same, times, sumUp, roundUp, billionths}
 use Rattle.csl.specs.Chain.{Chain, exitRate, topRate, load, depth}
 use Rattle.csl.specs.Phase.{divisor, stepTop, stepValue, weight, quotient}
 use Rattle.csl.specs.Limit.{Each, FromSome, LimitIs}
-use Rattle.csl.specs.Verdicts.{Verdict, Yes, Reading, Decided, asNo, least, Sides}
+use Rattle.csl.specs.Verdicts.{Verdict, No, Yes, Reading, Decided, asNo, least, Sides}
 use Rattle.csl.specs.Graph.{Leads, UntilPossible, UntilCertain, Enters, EntersOnly, ByPossible, ByCertain}
 use Rattle.csl.specs.Until.{untilPhase, untilQuotient}
 use Rattle.csl.specs.Next.{nextExitRate, nextFraction, nextLower, nextUpper}
-use Rattle.csl.specs.Path.{meaning, valueAt, SidesAt, AllDecided, DecidedIn, Reads, reads-until, reads-next}
+use Rattle.csl.specs.Between.{laterQuotient, earlierPhase, betweenQuotient}
+use Rattle.csl.specs.Path.{meaning, valueAt, SidesAt, AllDecided, DecidedIn, Reads, reads-until, reads-next, reads-between}
 use Rattle.csl.specs.Ends.{EndsAt}
 use Rattle.csl.specs.Backing.{AtEach, Backed, ChanceKeeps, operandsOf, NothingUndecided, SidesThroughout}
 use Rattle.csl.specs.Truth.{Obeys, Throughout}
 use Rattle.csl.specs.Order.{isAbove, worstFirst, Ranks, InOrder}
-use Rattle.csl.specs.Report.{Reported, backingOf}
-use Rattle.csl.specs.Refusal.{Job, jobChain}
-use Rattle.csl.specs.Bench.{small, up, dead, eight, Accepts, BenchValues, DecimalHours, NextMoves, SecondListing, PossibleAndCertain, EightHours, TrialQuotients}
+use Rattle.csl.specs.Report.{Reported, backingOf, depthOf}
+use Rattle.csl.specs.Refusal.{Job, jobChain, formulaTests, firstOf, formulaFrom, isMissing, largeFormula, strangeLabel, wrongBound, wrongTimes, highLoad}
+use Rattle.csl.specs.Bench.{small, up, dead, eight, Accepts, BenchValues, DecimalHours, NextMoves, SecondListing, PossibleAndCertain, NotBeforeAnHour, EightHours, TrialQuotients}
 use Rattle.csl.specs.Laws.Computing.{computing}
 use Rattle.csl.specs.Laws.Fraction.{under-below}
 use Rattle.csl.specs.Laws.Steps.{step-le, step-rises, divisor-some}
 use Rattle.csl.specs.Laws.Quotient.{Implies, until-starts, until-under, until-is, until-le, until-rises, weights-some}
 use Rattle.csl.specs.Laws.Next.{next-is, next-le, next-rises}
 use Rattle.csl.specs.Laws.NextEnds.{ends-next}
-use Rattle.csl.specs.Laws.OwnState.{exit-own, SameElsewhere, exit-same, top-same, depth-same, until-same-elsewhere}
+use Rattle.csl.specs.Laws.Between.{earlier-start, between-is, between-le, between-rises}
+use Rattle.csl.specs.Laws.BetweenEnds.{between-reports, until-reports}
+use Rattle.csl.specs.Laws.OwnState.{exit-own, SameElsewhere, exit-same, top-same, depth-same, until-same-elsewhere, between-same-elsewhere}
 use Rattle.csl.specs.Laws.Tail.{half-weight, light-from, after}
 use Rattle.csl.specs.Laws.Enclosure.{Encloses, encloses, ordered-ends}
 use Rattle.csl.specs.Laws.PointQuotients.{until-one}
@@ -52,6 +57,7 @@ use Rattle.csl.specs.Laws.Order.{rows-rank, ordered-in-order, only-in-or
 use Rattle.csl.specs.Laws.Bench as bench
 use Rattle.csl.specs.Laws.BenchNext as next-bench
 use Rattle.csl.specs.Laws.BenchGraph as graph-bench
+use Rattle.csl.specs.Laws.BenchBetween as between-bench
 use Rattle.csl.specs.Laws.Trial as trial
 use Rattle.csl.specs.Laws.EightHours as hours
 use Rattle.csl.specs.Laws.WholeHours as without-point
@@ -86,12 +92,13 @@ module _ (c : Chain) (r : Comparison) (p : ℕ) (w : Path) (lower upper : ℕ �
   one-verdict-follows x s l h =
       sides-one c r p s (lower s) (upper s) (v s) operands x (ordered-ends c operands s (lower s) (upper s) l (kept .ends s l)) (verdicts-follow s l) h
 
-  -- where the moves decide nothing is undecided; elsewhere the interval rule stands
-  pub moves-leave-nothing-undecided : DecidedIn c operands → (p ≡ 0) ⊎ (p ≡ billion) → (s : ℕ) → s < c .states → Decided (v s)
-  moves-leave-nothing-undecided d e s l = moves-decide c r p s (lower s) (upper s) (v s) operands d e (kept .verdict s l)
+  -- where the moves decide nothing is undecided; elsewhere, and of two phases, the interval rule stands
+  pub moves-leave-nothing-undecided : twoPhases operands ≡ false → DecidedIn c operands → (p ≡ 0) ⊎ (p ≡ billion)
+      → (s : ℕ) → s < c .states → Decided (v s)
+  moves-leave-nothing-undecided i d e s l = moves-decide c r p s (lower s) (upper s) (v s) operands i d e (kept .verdict s l)
 
-  pub verdicts-follow-from-the-intervals : (DecidedIn c operands → (p ≡ 0) ⊎ (p ≡ billion) → ⊥) → (s : ℕ) → s < c .states
-      → Sides (v s) r p (lower s) (upper s)
+  pub verdicts-follow-from-the-intervals : (twoPhases operands ≡ false → DecidedIn c operands → (p ≡ 0) ⊎ (p ≡ billion) → ⊥)
+      → (s : ℕ) → s < c .states → Sides (v s) r p (lower s) (upper s)
   verdicts-follow-from-the-intervals n s l = interval-stands c r p s (lower s) (upper s) (v s) operands n (verdicts-follow s l)
 
 -- The same of an until, whose quotients and operands can be named.
@@ -136,6 +143,45 @@ module _ (c : Chain) (r : Comparison) (p : ℕ) (a : Formula) (lower upper : ℕ
 pub next-moves-have-ends : (c : Chain) (v : ℕ → Verdict) (s : ℕ) → EndsAt c (nextOf v) s (nextLower c v s) (nextUpper c v s)
 next-moves-have-ends c v s = ends-next c v s
 
+-- The same of until between two times, with the first above 0: "for each pair of depths from the two phases' own depths on"; "the printed depth
+-- is their sum, which is D in both limits of 4 × D"; of the point ends two hold, and the graph rule leaves it to its ends.
+module _ (c : Chain) (r : Comparison) (p t u : ℕ) (a b : Formula) (lower upper : ℕ → ℕ) (v : ℕ → Verdict)
+    (k : Reported c (chance r p (between (suc t) u a b)) lower upper v) where
+  pub pairs-lie-in-the-interval : (x y : ℕ → Bool) → Reading (c .states) (k .first) x → Reading (c .states) (k .second) y
+      → (s m n : ℕ) → s < c .states → depth c (suc t) ≤ m → depth c (u - suc t) ≤ n
+      → Below (billionths (lower s)) (betweenQuotient c (suc t) u x y s m n) × Below (betweenQuotient c (suc t) u x y s m n) (billionths (upper s))
+  pairs-lie-in-the-interval x y i j s m n l d e =
+      let h = values-lie-in-the-interval c r p (between (suc t) u a b) lower upper v k (betweenOf (suc t) u x y)
+      (reads-between (suc t) u (k .first) (k .second) x y i j) s l in
+      (h .0 m n d e, h .1 m n d e)
+
+  pub intervals-of-two-phases-are-narrow : AllDecided c (k .first) → AllDecided c (k .second) → (s : ℕ) → s < c .states
+      → upper s ≤ lower s + widthFactor * (depth c (suc t) + depth c (u - suc t))
+  intervals-of-two-phases-are-narrow i j s l = intervals-are-narrow c r p (between (suc t) u a b) lower upper v k (i, j) s l
+
+  pub impossible-in-two-phases : (s : ℕ) → s < c .states → k .first s ≡ No → (lower s ≡ 0) × (upper s ≡ 0)
+  impossible-in-two-phases s l = k .keeps .ends s l .points .impossible
+
+  pub intervals-decide-two-phases : (s : ℕ) → s < c .states → Sides (v s) r p (lower s) (upper s)
+  intervals-decide-two-phases s l = verdicts-follow c r p (between (suc t) u a b) lower upper v k s l
+
+-- "With the first time 0 it is `U` with the second" in every respect: every report of the one is one of the other
+pub first-time-0-is-until : (c : Chain) (r : Comparison) (p u : ℕ) (a b : Formula) (lower upper : ℕ → ℕ) (v : ℕ → Verdict)
+    → (Reported c (chance r p (between 0 u a b)) lower upper v → Reported c (chance r p (until u a b)) lower upper v)
+    × (Reported c (chance r p (until u a b)) lower upper v → Reported c (chance r p (between 0 u a b)) lower upper v)
+first-time-0-is-until c r p u a b lower upper v = (between-reports c r p u a b lower upper v, until-reports c r p u a b lower upper v)
+
+-- and it has the depth of that until, and is turned back with it
+pub first-time-0-has-the-depth-of-until : (c : Chain) (r : Comparison) (p u : ℕ) (a b : Formula)
+    → depthOf c (chance r p (between 0 u a b)) ≡ depthOf c (chance r p (until u a b))
+unfolding depthOf
+first-time-0-has-the-depth-of-until c r p u a b = refl
+
+pub first-time-0-is-tested-as-until : (names : List Text) (q : ℕ) (r : Comparison) (p u : ℕ) (a b : Formula)
+    → firstOf (formulaTests names q (some (chance r p (between 0 u a b)))) ≡ firstOf (formulaTests names q (some (chance r p (until u a b))))
+unfolding formulaTests formulaFrom isMissing largeFormula strangeLabel wrongBound wrongTimes highLoad nodes nodesIn levels levelsIn labelsPass labelsPassIn pathsPass pathsPassIn
+first-time-0-is-tested-as-until names q r p u a b = rw (le-leb 0 u (omega arith)) refl
+
 -- Demand 2 at every `P` of a backing, inner ones too
 pub verdicts-follow-at-every-node : (c : Chain) (f : Formula) (v : ℕ → Verdict) (k : Backed c f v) → SidesThroughout c f v k
 verdicts-follow-at-every-node c f v k = sides-throughout c f v k
@@ -163,7 +209,7 @@ decided-verdicts-are-a-table c f v k d =
     let o : Obeys c f (λ s. asNo (v s)) = verdicts-obey c f v k d in (o, throughout c f v (λ s. asNo (v s)) k o)
 
 -- T4. The starred bench values, those of hours with decimals, of the next move and of moves to the own state, of the second listing, of what the
--- moves decide, and `P <= 10000000 U 8 up dead`, of every report that has a backing; and quotients as a second reckoning has them.
+-- moves decide, of until between two times, and `P <= 10000000 U 8 up dead`, of every report that has a backing; and quotients as a second reckoning has them.
 pub starred-bench-values : BenchValues
 starred-bench-values = bench.bench-values
 
@@ -178,6 +224,9 @@ second-listing-and-order-buffer = bench.second-listing
 
 pub possible-and-certain : PossibleAndCertain
 possible-and-certain = graph-bench.possible-and-certain
+
+pub not-before-an-hour : NotBeforeAnHour
+not-before-an-hour = between-bench.not-before-an-hour
 
 pub eight-hours-of-every-report : (lower upper : ℕ → ℕ) (v : ℕ → Verdict)
     → Reported (jobChain (small "P <= 10000000 U 8 up dead\n")) (chance AtMost 10000000 (until eight up dead)) lower upper v → EightHours lower upper v
@@ -224,6 +273,24 @@ module _ (c : Chain) (s : ℕ) where
 
   pub next-fractions-grow-with-the-reading : (x y : ℕ → Bool) → Implies (c .states) x y → Below (nextFraction c x s) (nextFraction c y s)
   next-fractions-grow-with-the-reading x y h = under-below (next-rises c x y s h)
+
+-- until between two times: the earlier phase starts as the request says, and the quotients at pairs of depths are fractions from 0 to 1 that grow
+-- with the reading
+module _ (c : Chain) (t u : ℕ) where
+  pub earlier-phase-starts-from-the-later-quotient : (first second : ℕ → Bool) (s n : ℕ)
+      → Same (stepValue c (earlierPhase c t u first second n) s 0) (cond (first s) (laterQuotient c t u first second s n) (frac 0 1))
+  earlier-phase-starts-from-the-later-quotient first second s n = earlier-start c t u first second s n
+
+  pub pair-quotients-are-fractions : (first second : ℕ → Bool) (s m n : ℕ) → IsFraction (betweenQuotient c t u first second s m n)
+  pair-quotients-are-fractions first second s m n = between-is c t u first second s m n
+
+  pub pair-quotients-are-at-most-1 : (first second : ℕ → Bool) (s m n : ℕ) → s < c .states
+      → Below (betweenQuotient c t u first second s m n) (frac 1 1)
+  pair-quotients-are-at-most-1 first second s m n l = omega (arith, between-le c t u first second s m n l)
+
+  pub pair-quotients-grow-with-the-reading : (a b a' b' : ℕ → Bool) → Implies (c .states) a a' → Implies (c .states) b b'
+      → (s m n : ℕ) → s < c .states → Below (betweenQuotient c t u a b s m n) (betweenQuotient c t u a' b' s m n)
+  pair-quotients-grow-with-the-reading a b a' b' h k s m n l = under-below (between-rises c t u a b a' b' h k s m n l)
 
 -- "In the last 40 steps up to D, and after, each weight is at most half the one before." The step is k + 1.
 pub weights-halve : (c : Chain) (t k : ℕ) → depth c t ≤ k + spareSteps
@@ -302,6 +369,10 @@ module _ (c d : Chain) (e : SameElsewhere c d) where
   pub until-leaves-out-of-quotients : (t : ℕ) (first second : ℕ → Bool) (s n : ℕ)
       → untilQuotient c t first second s n ≡ untilQuotient d t first second s n
   until-leaves-out-of-quotients t first second s n = until-same-elsewhere e t first second s n
+
+  pub pair-quotients-leave-them-out : (t u : ℕ) (first second : ℕ → Bool) (s m n : ℕ)
+      → betweenQuotient c t u first second s m n ≡ betweenQuotient d t u first second s m n
+  pair-quotients-leave-them-out t u first second s m n = between-same-elsewhere e t u first second s m n
 
 -- T9. The second listing. Its relation is total and has no ties; so there is one listing of the states in its order, every state once and each
 -- above the next, and no other. It looks at the ends of the states below n alone.

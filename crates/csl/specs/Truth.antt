@@ -3,7 +3,7 @@
 use mathlib.Core.Path.{_≡_}
 use mathlib.Core.Bool.{Bool, true, false, not, _&&_}
 use Prim.Native.Nat.{ℕ}
-use Rattle.csl.specs.Formula.{Formula, always, label, negated, both, chance, Path, until, nextMove, PathOf, untilOf, nextOf, Comparison}
+use Rattle.csl.specs.Formula.{Formula, always, label, negated, both, chance, Path, until, nextMove, between, PathOf, untilOf, nextOf, betweenOf, Comparison}
 use Rattle.csl.specs.Chain.{Chain}
 use Rattle.csl.specs.Limit.{Value, Holds, opposite}
 use Rattle.csl.specs.Verdicts.{Verdict, Reading}
@@ -59,6 +59,7 @@ abbrev mutual
   pub PathObeys : Chain → Path → (PathOf (ℕ → Bool) → Type 0) → Type 0
   PathObeys c (until t a e) L = TwoTrue (λ x. Obeys c a x) (λ x. Obeys c e x) λ x y. L (untilOf t x y)
   PathObeys c (nextMove a) L = OneTrue (λ x. Obeys c a x) λ x. L (nextOf x)
+  PathObeys c (between t u a e) L = TwoTrue (λ x. Obeys c a x) (λ x. Obeys c e x) λ x y. L (betweenOf t u x y)
 
 -- the table agrees with the backing at this node and at every node below it
 unfoldable mutual
@@ -78,3 +79,6 @@ unfoldable mutual
       Throughout c a (k .first) (o .first) (k .first-backed) (o .first-obeys)
       × Throughout c e (k .second) (o .second) (k .second-backed) (o .second-obeys)
   ThroughoutIn c (nextMove a) K L k o = Throughout c a (k .first) (o .first) (k .first-backed) (o .first-obeys)
+  ThroughoutIn c (between t u a e) K L k o =
+      Throughout c a (k .first) (o .first) (k .first-backed) (o .first-obeys)
+      × Throughout c e (k .second) (o .second) (k .second-backed) (o .second-obeys)

@@ -12,7 +12,7 @@ use Rattle.csl.specs.Chain.{Chain}
 use Rattle.numbers.specs.Filled.{at}
 use Rattle.incoming_moves.specs.Shown.{IndexShows, index-kept}
 use Rattle.vectors.specs.Places.{ownsFrom, marksFrom, EndsStored}
-use Rattle.vectors.specs.Prepared.{Prepared, prepared-kept}
+use Rattle.vectors.specs.Prepared.{Prepared}
 use Rattle.vectors.specs.Owns.{Owns, owns-kept}
 use Rattle.formula.specs.Nodes.{kindAt}
 use Rattle.formula.specs.FormulaAt.{formulaAt, formulaOver, at-kind}
@@ -42,13 +42,10 @@ levels-some (csl.chance r p w) = omega arith
 pub leaves-none : {mv ix l marks : List ℕ} {nodes : List Node} {node limit n q r : ℕ} → limit ≡ 0 → Leaves mv ix l l marks marks nodes node limit n q r
 leaves-none z a = absurd (omega (arith, a .deep, levels-some (formulaOf a)))
 
--- the words of the labels' marks stay, and the words stay prepared
+-- the words of the labels' marks stay
 pub marked-kept : (c : Chain) (names : List Text) {l l' : List ℕ} {n : ℕ} {f g : ℕ → ℕ} → Marked c names l n → EndsStored f g n l l'
     → Marked c names l' n
 marked-kept c names {n = n} m b i h s k = rw (b .after (marksFrom n + s) (omega arith)) (m i h s k)
-
-pub still-prepared : {mv l l' : List ℕ} {n q : ℕ} {f g : ℕ → ℕ} → Prepared mv l n q → EndsStored f g n l l' → Prepared mv l' n q
-still-prepared p b = prepared-kept p (b .same) (λ k h i o. b .after k h)
 
 -- a node of two operands has two levels, any other one
 rows-levels : (names : List Text) (look : ℕ → Formula) (k : Kind) → rowsOf (operandsOf k) ≤ levels (formulaOver names look k)
@@ -59,6 +56,7 @@ rows-levels names look (kind.Negated x) = omega arith
 rows-levels names look (kind.Both x y) = omega (arith, levels-some (look x))
 rows-levels names look (kind.Chance c p (path.Until t x y)) = omega (arith, levels-some (look x))
 rows-levels names look (kind.Chance c p (path.Next x)) = omega arith
+rows-levels names look (kind.Chance c p (path.Between t u x y)) = omega (arith, levels-some (look x))
 
 pub still-owns : {c : Chain} {l l' : List ℕ} {n : ℕ} {f g : ℕ → ℕ} → Owns c l n → EndsStored f g n l l' → Owns c l' n
 still-owns o b = owns-kept o (b .after)

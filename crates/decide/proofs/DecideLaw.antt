@@ -86,6 +86,7 @@ module _ {mv ix l marks : List ℕ} {nodes : List Node} {node limit n q : ℕ} (
           marked = λ i h s k. rw (left .after (marksFrom n + s) (omega arith)) (a .marked i h s k);
           label = a .fits node (omega arith) .label;
           limits = a .fits node (omega arith) .limits;
+          in-order = a .fits node (omega arith) .in-order;
           load = a .fits node (omega arith) .load;
           held = omega (arith, left .held, room-for may-operands (rowsOf (operandsOf (kindAt nodes node))) (rows-most may-operands));
         }

@@ -2,7 +2,7 @@
 use mathlib.Core.Path.{_≡_, ap, sym, _∙_}
 use mathlib.Core.Bool.{and-eq-true-iff}
 use mathlib.Core.List.{List, []}
-use Prim.Native.Nat.{ℕ, _+_, _*_, _≤_, _<_}
+use Prim.Native.Nat.{ℕ, zero, suc, _+_, _*_, _≤_, _<_}
 use native.Mathlib.Omega.{arith}
 use native.Mathlib.Nat.{zero-add}
 use lib.ListN.{length, getD}
@@ -49,6 +49,10 @@ unfolding found foundIn reportLower reportUpper depthOf
 chance-report c r p look (path.Until t x y) z =
     record { row = z .row; ends = z .report .ends; range = z .report .range; deep = z .report .deep }
 chance-report c r p look (path.Next x) z = record { row = z .row; ends = z .report .ends; range = z .report .range; deep = z .report .deep }
+chance-report c r p look (path.Between zero u x y) z =
+    record { row = z .row; ends = z .report .ends; range = z .report .range; deep = z .report .deep }
+chance-report c r p look (path.Between (suc t) u x y) z =
+    record { row = z .row; ends = z .report .ends; range = z .report .range; deep = z .report .deep }
 
 module _ {mv ix l marks : List ℕ} {k : Kind} {n q : ℕ} (a : NodeAsked mv ix l marks k n q) where
   by-kind : {l' m : List ℕ} {r : ℕ} (g : Kind) → k ≡ g
@@ -125,6 +129,7 @@ module _ {mv ix l marks : List ℕ} {k : Kind} {n q : ℕ} (a : NodeAsked mv ix 
           owns = a .owns;
           few-words = a .few-words;
           index = λ h. a .index (rw e h);
+          in-order = rw e at (a .in-order);
           load = rw e at (a .load);
           threshold = leb-true p mostThreshold (and-eq-true-iff (leb p mostThreshold) _ .0 (rw e at (a .limits)) .0);
           held = rw e at (a .held);

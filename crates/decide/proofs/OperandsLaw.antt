@@ -11,6 +11,7 @@ use Rattle.numbers.specs.Filled.{at, Filled, table-at, table-rest}
 use Rattle.numbers.specs.Part.{rest, back, rest-at, rest-length, part-filled}
 use Rattle.bounds.specs.Found.{found}
 use Rattle.vectors.specs.Places.{valuesFrom}
+use Rattle.vectors.specs.Prepared.{ends-prepared}
 use Rattle.verdicts.specs.Byte.{verdictAt, byte-read}
 use Rattle.formula.specs.Nodes.{kindAt}
 use Rattle.formula.specs.Operands.{operandsOf}
@@ -24,7 +25,7 @@ use Rattle.formula.specs.declared.operands.Operands.the-variants.{None, One, Tw
 use Rattle.decide.specs.Asked.{DecideAsked, formulaOf}
 use Rattle.decide.specs.Rows.{rowsOf, RowsHold}
 use Rattle.decide.proofs.RowsLaw.{ends-over, first-row, second-row}
-use Rattle.decide.proofs.AskedLaw.{Leaves, levels-some, marked-kept, still-prepared, still-owns, still-index, room-for, under, operand, of-kind}
+use Rattle.decide.proofs.AskedLaw.{Leaves, levels-some, marked-kept, still-owns, still-index, room-for, under, operand, of-kind}
 
 -- a formula has a level more than its operands
 abbrev levelsOver : Operands → (ℕ → ℕ) → ℕ
@@ -40,6 +41,7 @@ levels-over names look (kind.Negated x) = refl
 levels-over names look (kind.Both x y) = refl
 levels-over names look (kind.Chance c p (path.Until t x y)) = refl
 levels-over names look (kind.Chance c p (path.Next x)) = refl
+levels-over names look (kind.Chance c p (path.Between t u x y)) = refl
 
 -- The operands of a node are decided: their rows hold their verdicts, the rows behind hold 0, and all words but the ends are as they were.
 pub record OperandsLeft {mv ix l marks : List ℕ} {nodes : List Node} {node limit n q : ℕ} (a : DecideAsked mv ix l marks nodes node (suc limit) n q)
@@ -101,7 +103,7 @@ module _ {mv ix l marks : List ℕ} {nodes : List Node} {node limit n q : ℕ} (
       abbrev pub may-second : DecideAsked mv ix l₁ (rest m₁ n) nodes y limit n q
       may-second =
           let v = u may-first in
-          operand a y l₁ (rest m₁ n) (before .1) (still-prepared (a .prepared) (v .ends)) (still-owns (a .owns) (v .ends)) (λ i. still-index i (v .ends))
+          operand a y l₁ (rest m₁ n) (before .1) (ends-prepared (a .prepared) (v .ends)) (still-owns (a .owns) (v .ends)) (λ i. still-index i (v .ends))
           (marked-kept (a .c) (a .names) (a .marked) (v .ends)) (omega (arith, deepest, a .deep))
           (omega (arith, room-for a (1 + levels (under a y)) (omega (arith, deepest)), v .row .same, rest-length m₁ n))
           (λ k h. rest-at m₁ n k ∙ table-rest (v .row) (n + k) (omega arith) ∙ a .clear (n + k) (omega arith))

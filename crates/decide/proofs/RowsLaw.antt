@@ -22,7 +22,16 @@ module _ {v w : ℕ → ℕ} {n : ℕ} {m₀ m₁ m₂ : List ℕ} (t : Table v 
   pub second-row : (s : ℕ) → s < n → at m₂ (n + s) ≡ w s
   second-row s h = u .filled s h
 
--- a row, and 0 in the one behind it
+-- a row, and 0 in the one behind it, that was put there before or after
+pub cleared-row : {f : ℕ → ℕ} {n : ℕ} {x y z : List ℕ} → Filled (λ s. 0) n n x y → Table f y z n → Twin f (λ s. 0) 0 n n x z
+cleared-row u t =
+    record {
+      same = t .same ∙ u .same;
+      first = λ k b. t .filled k b;
+      second = λ k b. t .after _ (omega arith) ∙ u .filled k b;
+      else = λ k a b. filled-else t k a ∙ filled-else u k b;
+    }
+
 pub row-cleared : {f : ℕ → ℕ} {n : ℕ} {x y z : List ℕ} → Table f x y n → Filled (λ s. 0) n n y z → Twin f (λ s. 0) 0 n n x z
 row-cleared t u =
     record {

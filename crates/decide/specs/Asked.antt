@@ -25,7 +25,7 @@ use Rattle.formula.specs.FormulaAt.{formulaAt}
 use Rattle.formula.specs.Pass.{passed}
 use Rattle.formula.specs.declared.nodes.Kind.{Kind}
 use Rattle.formula.specs.declared.nodes.Node.{Node}
-use Rattle.formula.specs.declared.pass.Test.the-variants.{Labels, Limits, Load, NoSearch}
+use Rattle.formula.specs.declared.pass.Test.the-variants.{Labels, Limits, Order, Load, NoSearch}
 
 -- the label marks among the vector words: in the word of each state, the bit of each name's place
 abbrev pub Marked : Chain → List Text → List ℕ → ℕ → Type 0
@@ -36,6 +36,7 @@ pub record NodeFits (names : List Text) (q k : ℕ) (x : Kind) : Type 0 where
   pub before : OperandsBefore k x
   pub label : passed (Labels (length names)) x ≡ true
   pub limits : passed Limits x ≡ true
+  pub in-order : passed Order x ≡ true
   pub load : passed (Load q) x ≡ true
 
 -- A node is to be decided whose formula has no more levels than the limit: the words are prepared for a chain c whose labels have these names,

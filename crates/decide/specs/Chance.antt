@@ -2,10 +2,10 @@
 use mathlib.Core.Path.{_≡_}
 use mathlib.Core.Bool.{true, false}
 use mathlib.Core.List.{List}
-use Prim.Native.Nat.{ℕ, _+_, _*_, _≤_, _<_}
+use Prim.Native.Nat.{ℕ, _+_, _*_, _-_, _≤_, _<_}
 use lib.ListN.{length}
 use Rattle.csl.specs.Limits.{mostMoves, mostThreshold, mostRateHundredths}
-use Rattle.csl.specs.Formula.{PathOf, untilOf, nextOf, mapped, phasesPass, Comparison}
+use Rattle.csl.specs.Formula.{PathOf, untilOf, nextOf, betweenOf, mapped, timesInOrder, phasesPass, Comparison}
 use Rattle.csl.specs.Chain.{Chain}
 use Rattle.csl.specs.Verdicts.{Verdict}
 use Rattle.csl.specs.Path.{meaning}
@@ -47,14 +47,14 @@ pub record UntilAsked (mv ix l marks : List ℕ) (n q t p : ℕ) : Type 0 where
   pub held : n + n ≤ length marks
 
 -- It is decided, whatever the verdicts are that the bytes of the two rows stand for; the second row holds 0 again.
-pub record UntilDecided (c : Chain) (r : Comparison) (p : ℕ) (o : PathOf (ℕ → Verdict)) (n : ℕ) (l₀ l marks₀ marks : List ℕ) (d : ℕ) : Type 0 where
+pub record TwoDecided (c : Chain) (r : Comparison) (p : ℕ) (o : PathOf (ℕ → Verdict)) (n : ℕ) (l₀ l marks₀ marks : List ℕ) (d : ℕ) : Type 0 where
   pub rows : Twin (chanceByte c r p o) (λ _. 0) 0 n n marks₀ marks
   pub report : PathEnds c o n l₀ l d
 
 abbrev pub UntilLeaves : {mv ix l marks : List ℕ} {n q t p : ℕ} → UntilAsked mv ix l marks n q t p → Comparison → (l' marks' : List ℕ) → ℕ → Type 0
 UntilLeaves {l = l} {marks = marks} {n = n} {t = t} {p = p} a r l' marks' d =
     (v w : ℕ → Verdict) → ((s : ℕ) → s < n → verdictAt (at marks s) ≡ v s) → ((s : ℕ) → s < n → verdictAt (at marks (n + s)) ≡ w s)
-    → UntilDecided (a .c) r p (untilOf t v w) n l l' marks marks' d
+    → TwoDecided (a .c) r p (untilOf t v w) n l l' marks marks' d
 
 -- The same over a next move, from the row of its operand.
 pub record NextAsked (mv l marks : List ℕ) (n p : ℕ) : Type 0 where
@@ -74,6 +74,41 @@ abbrev pub NextLeaves : {mv l marks : List ℕ} {n p : ℕ} → NextAsked mv l m
 NextLeaves {l = l} {marks = marks} {n = n} {p = p} a r l' marks' d =
     (v : ℕ → Verdict) → ((s : ℕ) → s < n → verdictAt (at marks s) ≡ v s) → NextDecided (a .c) r p (nextOf v) n l l' marks marks' d
 
+-- Over an until between the times t and u, with t above 0.
+pub record TwoPhasesAsked (mv l marks : List ℕ) (n q t u p : ℕ) : Type 0 where
+  pub c : Chain
+  pub shows : Shows c mv (length mv) n
+  pub prepared : Prepared mv l n q
+  pub some : 0 < t
+  pub in-order : t ≤ u
+  pub earlier-load : q * t ≤ mostRateHundredths
+  pub later-load : q * (u - t) ≤ mostRateHundredths
+  pub threshold : p ≤ mostThreshold
+  pub held : n + n ≤ length marks
+
+abbrev pub TwoPhasesLeaves : {mv l marks : List ℕ} {n q t u p : ℕ} → TwoPhasesAsked mv l marks n q t u p → Comparison → (l' marks' : List ℕ) → ℕ → Type 0
+TwoPhasesLeaves {l = l} {marks = marks} {n = n} {t = t} {u = u} {p = p} a r l' marks' d =
+    (v w : ℕ → Verdict) → ((s : ℕ) → s < n → verdictAt (at marks s) ≡ v s) → ((s : ℕ) → s < n → verdictAt (at marks (n + s)) ≡ w s)
+    → TwoDecided (a .c) r p (betweenOf t u v w) n l l' marks marks' d
+
+-- And with any first time: where it is 0, what until over the second asks.
+pub record BetweenAsked (mv ix l marks : List ℕ) (n q t u p : ℕ) : Type 0 where
+  pub c : Chain
+  pub shows : Shows c mv (length mv) n
+  pub prepared : Prepared mv l n q
+  pub few-words : length ix ≤ mostMoves
+  pub index : t ≡ 0 → p ≡ 0 → (u ≡ 0 → ⊥) → IndexShows c ix l (ownsFrom n) n
+  pub in-order : t ≤ u
+  pub load : t ≡ 0 → q * u ≤ mostRateHundredths
+  pub loads : (t ≡ 0 → ⊥) → (q * t ≤ mostRateHundredths) × (q * (u - t) ≤ mostRateHundredths)
+  pub threshold : p ≤ mostThreshold
+  pub held : n + n ≤ length marks
+
+abbrev pub BetweenLeaves : {mv ix l marks : List ℕ} {n q t u p : ℕ} → BetweenAsked mv ix l marks n q t u p → Comparison → (l' marks' : List ℕ) → ℕ → Type 0
+BetweenLeaves {l = l} {marks = marks} {n = n} {t = t} {u = u} {p = p} a r l' marks' d =
+    (v w : ℕ → Verdict) → ((s : ℕ) → s < n → verdictAt (at marks s) ≡ v s) → ((s : ℕ) → s < n → verdictAt (at marks (n + s)) ≡ w s)
+    → TwoDecided (a .c) r p (betweenOf t u v w) n l l' marks marks' d
+
 -- And over any path.
 pub record ChanceAsked (mv ix l marks : List ℕ) (path : Path) (p n q : ℕ) : Type 0 where
   pub c : Chain
@@ -82,6 +117,7 @@ pub record ChanceAsked (mv ix l marks : List ℕ) (path : Path) (p n q : ℕ) : 
   pub owns : Owns c l n
   pub few-words : length ix ≤ mostMoves
   pub index : unsearched p (pathMeant path) ≡ false → IndexShows c ix l (ownsFrom n) n
+  pub in-order : timesInOrder (pathMeant path) ≡ true
   pub load : phasesPass (lightOf q) (pathMeant path) ≡ true
   pub threshold : p ≤ mostThreshold
   pub held : rowsOf (operandsIn (pathMeant path)) * n ≤ length marks

@@ -11,7 +11,7 @@ use Rattle.formula.specs.Nodes.{kindAt}
 use Rattle.formula.specs.Operands.{OperandsBefore}
 use Rattle.formula.specs.Pass.{allBelow, placePassed, allPassed}
 use Rattle.formula.specs.declared.nodes.Nodes.{Nodes}
-use Rattle.formula.specs.declared.pass.Test.the-variants.{Labels, Limits, Load}
+use Rattle.formula.specs.declared.pass.Test.the-variants.{Labels, Limits, Order, Load}
 use Rattle.decide.specs.Asked.{NodeFits}
 
 pub each-below : (p : ℕ → Bool) (n : ℕ) → allBelow p n ≡ true → (k : ℕ) → k < n → p k ≡ true
@@ -22,12 +22,13 @@ each-below p (suc n) h k i =
     below-more (λ j. p j ≡ true) n (each-below p n (b .0)) (b .1) k (omega arith)
 
 pub nodes-fit : (names : List Text) (q : ℕ) (f : Nodes) → ((k : ℕ) → OperandsBefore k (kindAt (f .nodes) k))
-    → allPassed (Labels (length names)) f ≡ true → allPassed Limits f ≡ true → allPassed (Load q) f ≡ true
+    → allPassed (Labels (length names)) f ≡ true → allPassed Limits f ≡ true → allPassed Order f ≡ true → allPassed (Load q) f ≡ true
     → (k : ℕ) → k < f .count → NodeFits names q k (kindAt (f .nodes) k)
-nodes-fit names q f before labels limits load k h =
+nodes-fit names q f before labels limits in-order load k h =
     record {
       before = before k;
       label = each-below (placePassed (Labels (length names)) (f .nodes)) (f .count) labels k h;
       limits = each-below (placePassed Limits (f .nodes)) (f .count) limits k h;
+      in-order = each-below (placePassed Order (f .nodes)) (f .count) in-order k h;
       load = each-below (placePassed (Load q) (f .nodes)) (f .count) load k h;
     }

@@ -22,7 +22,7 @@ use Rattle.formula.specs.FormulaAt.{formulaOver}
 use Rattle.formula.specs.Pass.{passed}
 use Rattle.formula.specs.declared.nodes.Kind.{Kind}
 use Rattle.formula.specs.declared.operands.Operands.{Operands}
-use Rattle.formula.specs.declared.pass.Test.the-variants.{Labels, Limits, Load, NoSearch}
+use Rattle.formula.specs.declared.pass.Test.the-variants.{Labels, Limits, Order, Load, NoSearch}
 use Rattle.decide.specs.Asked.{Marked}
 use Rattle.decide.specs.Rows.{rowsOf, RowsHold, RowLeft}
 
@@ -39,6 +39,7 @@ pub record NodeAsked (mv ix l marks : List ℕ) (kind : Kind) (n q : ℕ) : Type
   pub marked : Marked c names l n
   pub label : passed (Labels (length names)) kind ≡ true
   pub limits : passed Limits kind ≡ true
+  pub in-order : passed Order kind ≡ true
   pub load : passed (Load q) kind ≡ true
   pub held : rowsOf (operandsOf kind) * n ≤ length marks
 

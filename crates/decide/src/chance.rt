@@ -3,7 +3,7 @@ use crate::rows::clear_second;
 use formula::Path;
 use verdicts::Comparison;
 ghost use Rattle.verdicts.specs.Paper.{comparisonOf};
-ghost use Rattle.decide.specs.Chance.{UntilAsked, UntilLeaves, NextAsked, NextLeaves, ChanceAsked, ChanceLeaves};
+ghost use Rattle.decide.specs.Chance.{UntilAsked, UntilLeaves, NextAsked, NextLeaves, TwoPhasesAsked, TwoPhasesLeaves, BetweenAsked, BetweenLeaves, ChanceAsked, ChanceLeaves};
 
 // Over an until, the row of whose first operand is its own; that of the second, behind it, is put back to 0.
 fn over_until(
@@ -54,6 +54,66 @@ fn over_next(
     0
 }
 
+// Over an until between two times, the first of which is above 0: first the later phase, the until over the difference; then, with no state of the
+// second operand as a goal any more, the earlier phase from the ends that it left. The row of the first operand is the node's own; that of the
+// second, behind it, is put back to 0. The depth is that of both.
+fn over_two_phases(
+    moves: &[u64],
+    vectors: &mut [u64],
+    marks: &mut [u8],
+    n: usize,
+    q: u64,
+    from: u64,
+    to: u64,
+    comparison: Comparison,
+    threshold: u64,
+) -> usize
+    requires { ⌜ TwoPhasesAsked (now moves) (now vectors) (now marks) n q from to threshold ⌝ }
+    ensures { λ r. ⌜ ((a : TwoPhasesAsked (now (moves .entry)) (now (vectors .entry)) (now (marks .entry)) n q from to threshold)
+        → TwoPhasesLeaves a (comparisonOf comparison) (now (vectors .exit)) (now (marks .exit)) r) ⌝ }
+{
+    let rows = &marks[..];
+    let later = until::until(moves, vectors, rows, &rows[n..], n, q, to - from);
+    clear_second(marks, n);
+    let first = &marks[..];
+    let earlier = until::earlier(moves, vectors, first, &first[n..], n, q, from);
+    verdict_rows::judge(vectors, comparison, threshold as u32, marks, n);
+    earlier + later
+}
+
+// Over an until between two times: with the first of them 0 it is the until over the second.
+fn over_between(
+    moves: &[u64],
+    index: &[u64],
+    vectors: &mut [u64],
+    marks: &mut [u8],
+    n: usize,
+    q: u64,
+    from: u64,
+    to: u64,
+    comparison: Comparison,
+    threshold: u64,
+) -> usize
+    requires { ⌜ BetweenAsked (now moves) (now index) (now vectors) (now marks) n q from to threshold ⌝ }
+    ensures { λ r. ⌜ ((a : BetweenAsked (now (moves .entry)) (now (index .entry)) (now (vectors .entry)) (now (marks .entry)) n q from to threshold)
+        → BetweenLeaves a (comparisonOf comparison) (now (vectors .exit)) (now (marks .exit)) r) ⌝ }
+{
+    if from == 0 {
+        return over_until(
+            moves,
+            index,
+            vectors,
+            marks,
+            n,
+            q,
+            to,
+            comparison,
+            threshold,
+        );
+    }
+    over_two_phases(moves, vectors, marks, n, q, from, to, comparison, threshold)
+}
+
 // Of any path.
 pub fn chance(
     path: Path,
@@ -87,5 +147,22 @@ pub fn chance(
             threshold,
         ),
         Path::Next(_) => over_next(moves, vectors, marks, n, comparison, threshold),
+        Path::Between {
+            from,
+            to,
+            first: _,
+            second: _,
+        } => over_between(
+            moves,
+            index,
+            vectors,
+            marks,
+            n,
+            q,
+            from,
+            to,
+            comparison,
+            threshold,
+        ),
     }
 }

@@ -22,13 +22,14 @@ fn broken(text: &[u8]) {
     say(!r.readable);
 }
 
-// So many nodes are laid out of the text, and pass the tests of labels, limits and load.
+// So many nodes are laid out of the text, and pass the tests of labels, limits, order and load.
 fn laid(text: &[u8], count: usize) {
     let r = formula::read(text, b",up,dead");
     let row = r.nodes;
     say(row.count == count);
     say(formula::all_pass(row, Test::Labels(2)));
     say(formula::all_pass(row, Test::Limits));
+    say(formula::all_pass(row, Test::Order));
     say(formula::all_pass(row, Test::Load(64000000)));
 }
 
@@ -70,6 +71,10 @@ fn deepest_laid() {
     );
     laid(
         b"P < 1 U 1 P < 1 U 1 P < 1 U 1 P < 1 U 1 P < 1 U 1 P < 1 U 1 P < 1 U 1 P < 1 U 1 P < 1 U 1 P < 1 U 1 P < 1 U 1 P < 1 U 1 P < 1 U 1 P < 1 U 1 P < 1 U 1 up up up up up up up up up up up up up up up up\n",
+        31,
+    );
+    laid(
+        b"P < 1 V 1 2 P < 1 V 1 2 P < 1 V 1 2 P < 1 V 1 2 P < 1 V 1 2 P < 1 V 1 2 P < 1 V 1 2 P < 1 V 1 2 P < 1 V 1 2 P < 1 V 1 2 P < 1 V 1 2 P < 1 V 1 2 P < 1 V 1 2 P < 1 V 1 2 P < 1 V 1 2 up up up up up up up up up up up up up up up up\n",
         31,
     );
     laid(b"! ! ! ! ! ! ! ! ! ! ! ! ! ! ! up\n", 16);

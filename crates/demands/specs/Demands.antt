@@ -2,22 +2,23 @@
 -- finished (csl's `Finished`) when its answer and its buffers are as document 01 has them; that is what `checker::check` promises, with no
 -- `requires`. What is stated here holds of every finished job. Assumes nothing.
 use mathlib.Core.Path.{_≡_}
-use mathlib.Core.Bool.{Bool}
+use mathlib.Core.Bool.{Bool, false}
 use mathlib.Core.List.{List}
 use mathlib.Core.Logic.{_⊎_}
 use mathlib.Core.Option.{none, some}
-use Prim.Native.Nat.{ℕ, _+_, _*_, _≤_, _<_}
+use Prim.Native.Nat.{ℕ, suc, _+_, _*_, _-_, _≤_, _<_}
 use lib.ListN.{take, drop}
 use Rattle.csl.specs.Limits.{billion, widthFactor}
 use Rattle.csl.specs.Moves.{ratesOut}
-use Rattle.csl.specs.Formula.{Formula, chance, Path, until, nextMove, PathOf, Comparison}
+use Rattle.csl.specs.Formula.{Formula, chance, Path, until, nextMove, between, PathOf, twoPhases, Comparison}
 use Rattle.csl.specs.Fraction.{Below, billionths}
 use Rattle.csl.specs.Chain.{Chain, exitRate, topRate, depth}
 use Rattle.csl.specs.Limit.{Each}
-use Rattle.csl.specs.Verdicts.{Verdict, Reading, Decided, asNo, least, Sides}
+use Rattle.csl.specs.Verdicts.{Verdict, No, Reading, Decided, asNo, least, Sides}
 use Rattle.csl.specs.Graph.{UntilPossible, UntilCertain, Enters, EntersOnly, ByPossible, ByCertain}
 use Rattle.csl.specs.Until.{untilQuotient}
 use Rattle.csl.specs.Next.{nextExitRate, nextFraction, nextLower, nextUpper}
+use Rattle.csl.specs.Between.{betweenQuotient}
 use Rattle.csl.specs.Path.{meaning, valueAt, SidesAt, AllDecided, DecidedIn, Reads}
 use Rattle.csl.specs.Backing.{Backed, ChanceKeeps, operandsOf, NothingUndecided, SidesThroughout}
 use Rattle.csl.specs.Truth.{Obeys, Throughout, ThroughoutIn}
@@ -34,7 +35,7 @@ use Rattle.demands.specs.Proved.{TheReport, agrees-here}
 module _ (j : Job) (before : Buffers (List ℕ)) (a : Answer) (after : Buffers (List ℕ)) (finished : Finished j before a after) where
   -- Demand 1. "A job of three texts gets one finished report or one refusal number, for all bytes and all lent lengths; a refusal leaves every
   -- lent buffer untouched."
-  pub one-report-or-one-number : ((number : ℕ) × (a ≡ refusedWith number) × (1 ≤ number) × (number ≤ 15) × (after ≡ before))
+  pub one-report-or-one-number : ((number : ℕ) × (a ≡ refusedWith number) × (1 ≤ number) × (number ≤ 16) × (after ≡ before))
       ⊎ ((lower : ℕ → ℕ) × (upper : ℕ → ℕ) × (v : ℕ → Verdict) × (a ≡ acceptedWith (depthOf (jobChain j) (jobFormula j)))
       × TheReport j before after lower upper v)
   one-report-or-one-number = proved.one-answer j before a after finished
@@ -82,11 +83,13 @@ module _ (c : Chain) (r : Comparison) (p : ℕ) (w : Path) (lower upper : ℕ �
   pub no-other-verdict-follows : (x : Verdict) → SidesAt c (theorems.operands c r p w lower upper v k) r p s (lower s) (upper s) x → v s ≡ x
   no-other-verdict-follows x h = theorems.one-verdict-follows c r p w lower upper v k x s in-range h
 
-  -- where the moves decide, and where they do not
-  pub never-undecided-by-the-moves : DecidedIn c (theorems.operands c r p w lower upper v k) → (p ≡ 0) ⊎ (p ≡ billion) → Decided (v s)
-  never-undecided-by-the-moves d e = theorems.moves-leave-nothing-undecided c r p w lower upper v k d e s in-range
+  -- where the moves decide, and where they do not: "Ask 5's graph rule leaves two phases to their ends"
+  pub never-undecided-by-the-moves : twoPhases (theorems.operands c r p w lower upper v k) ≡ false
+      → DecidedIn c (theorems.operands c r p w lower upper v k) → (p ≡ 0) ⊎ (p ≡ billion) → Decided (v s)
+  never-undecided-by-the-moves i d e = theorems.moves-leave-nothing-undecided c r p w lower upper v k i d e s in-range
 
-  pub elsewhere-by-the-interval : (DecidedIn c (theorems.operands c r p w lower upper v k) → (p ≡ 0) ⊎ (p ≡ billion) → ⊥)
+  pub elsewhere-by-the-interval : (twoPhases (theorems.operands c r p w lower upper v k) ≡ false
+      → DecidedIn c (theorems.operands c r p w lower upper v k) → (p ≡ 0) ⊎ (p ≡ billion) → ⊥)
       → Sides (v s) r p (lower s) (upper s)
   elsewhere-by-the-interval n = theorems.verdicts-follow-from-the-intervals c r p w lower upper v k n s in-range
 
@@ -163,6 +166,31 @@ module _ (c : Chain) (r : Comparison) (p : ℕ) (f : Formula) (lower upper : ℕ
   pub both-ends-are-determined : (lower s ≡ nextLower c (k .first) s) × (upper s ≡ nextUpper c (k .first) s)
   both-ends-are-determined = theorems.ends-of-a-next-move c r p f lower upper v k s in-range
 
+-- and of until between two times, with the first above 0, "for each pair of depths from the two phases' own depths on"; their sum "is D in both
+-- limits of 4 × D"; "both 0 where the first operand is no"
+module _ (c : Chain) (r : Comparison) (p t u : ℕ) (f g : Formula) (lower upper : ℕ → ℕ) (v : ℕ → Verdict)
+    (k : Reported c (chance r p (between (suc t) u f g)) lower upper v) where
+  pub every-pair-is-enclosed : (x y : ℕ → Bool) → Reading (c .states) (k .first) x → Reading (c .states) (k .second) y
+      → (s m n : ℕ) → s < c .states → depth c (suc t) ≤ m → depth c (u - suc t) ≤ n
+      → Below (billionths (lower s)) (betweenQuotient c (suc t) u x y s m n) × Below (betweenQuotient c (suc t) u x y s m n) (billionths (upper s))
+  every-pair-is-enclosed x y i h s m n l d e = theorems.pairs-lie-in-the-interval c r p t u f g lower upper v k x y i h s m n l d e
+
+  pub every-interval-of-two-phases-is-narrow : AllDecided c (k .first) → AllDecided c (k .second) → (s : ℕ) → s < c .states
+      → upper s ≤ lower s + widthFactor * (depth c (suc t) + depth c (u - suc t))
+  every-interval-of-two-phases-is-narrow i h s l = theorems.intervals-of-two-phases-are-narrow c r p t u f g lower upper v k i h s l
+
+  pub both-ends-are-0-without-the-first-operand : (s : ℕ) → s < c .states → k .first s ≡ No → (lower s ≡ 0) × (upper s ≡ 0)
+  both-ends-are-0-without-the-first-operand s l e = theorems.impossible-in-two-phases c r p t u f g lower upper v k s l e
+
+  pub two-phases-are-left-to-their-ends : (s : ℕ) → s < c .states → Sides (v s) r p (lower s) (upper s)
+  two-phases-are-left-to-their-ends s l = theorems.intervals-decide-two-phases c r p t u f g lower upper v k s l
+
+-- "With the first time 0 it is `U` with the second": it has that until's reports and no others
+pub first-time-0-is-until : (c : Chain) (r : Comparison) (p u : ℕ) (f g : Formula) (lower upper : ℕ → ℕ) (v : ℕ → Verdict)
+    → (Reported c (chance r p (between 0 u f g)) lower upper v → Reported c (chance r p (until u f g)) lower upper v)
+    × (Reported c (chance r p (until u f g)) lower upper v → Reported c (chance r p (between 0 u f g)) lower upper v)
+first-time-0-is-until c r p u f g lower upper v = theorems.first-time-0-is-until c r p u f g lower upper v
+
 -- "every truth table that obeys CSL's rules agrees with each yes and no, nested formulas included; with nothing undecided the verdicts are
 -- such a table": of every backing. That of a report is csl's `backingOf`.
 module _ (c : Chain) (f : Formula) (v : ℕ → Verdict) (k : Backed c f v) where
@@ -172,7 +200,7 @@ module _ (c : Chain) (f : Formula) (v : ℕ → Verdict) (k : Backed c f v) wher
   pub decided-verdicts-are-a-table : NothingUndecided c f v k → (o : Obeys c f (λ s. asNo (v s))) × Throughout c f v (λ s. asNo (v s)) k o
   decided-verdicts-are-a-table d = theorems.decided-verdicts-are-a-table c f v k d
 
--- so the verdicts that any backing of a report gives the operands of its until, and of its next move, agree with every such table
+-- so the verdicts that any backing of a report gives the operands of its until, of its next move, and of its until between two times, agree with every such table
 module _ (c : Chain) (r : Comparison) (p t : ℕ) (f g : Formula) (lower upper : ℕ → ℕ) (v : ℕ → Verdict)
     (k : Reported c (chance r p (until t f g)) lower upper v) (table : ℕ → Bool) (o : Obeys c (chance r p (until t f g)) table) where
   pub first-operand-agrees : Reading (c .states) (k .first) (o .first)
@@ -194,3 +222,17 @@ module _ (c : Chain) (r : Comparison) (p : ℕ) (f : Formula) (lower upper : ℕ
   operand-agrees =
       agrees-here c f (k .first) (o .first) (k .first-backed) (o .first-obeys)
       (every-table-agrees c (chance r p (nextMove f)) v (backingOf c (chance r p (nextMove f)) lower upper v k) table o .1)
+
+module _ (c : Chain) (r : Comparison) (p t u : ℕ) (f g : Formula) (lower upper : ℕ → ℕ) (v : ℕ → Verdict)
+    (k : Reported c (chance r p (between t u f g)) lower upper v) (table : ℕ → Bool) (o : Obeys c (chance r p (between t u f g)) table) where
+  pub first-operand-between-agrees : Reading (c .states) (k .first) (o .first)
+  unfolding Throughout ThroughoutIn backingOf
+  first-operand-between-agrees =
+      agrees-here c f (k .first) (o .first) (k .first-backed) (o .first-obeys)
+      (every-table-agrees c (chance r p (between t u f g)) v (backingOf c (chance r p (between t u f g)) lower upper v k) table o .1 .0)
+
+  pub second-operand-between-agrees : Reading (c .states) (k .second) (o .second)
+  unfolding Throughout ThroughoutIn backingOf
+  second-operand-between-agrees =
+      agrees-here c g (k .second) (o .second) (k .second-backed) (o .second-obeys)
+      (every-table-agrees c (chance r p (between t u f g)) v (backingOf c (chance r p (between t u f g)) lower upper v k) table o .1 .1)

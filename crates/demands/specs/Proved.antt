@@ -79,7 +79,7 @@ module _ (j : Job) (before : Buffers (List ℕ)) (a : Answer) (after : Buffers (
       go (some n) e k = refusal-number-not-7 j (lengths before) (e ∙ ap (λ (x : ℕ). some x) (same-number n 7 a k h))
 
   answered : (o : Option ℕ) → refusal j (lengths before) ≡ o → By o
-      → ((number : ℕ) × (a ≡ refusedWith number) × (1 ≤ number) × (number ≤ 15) × (after ≡ before))
+      → ((number : ℕ) × (a ≡ refusedWith number) × (1 ≤ number) × (number ≤ 16) × (after ≡ before))
       ⊎ ((lower : ℕ → ℕ) × (upper : ℕ → ℕ) × (v : ℕ → Verdict) × (a ≡ acceptedWith (depthOf (jobChain j) (jobFormula j)))
       × TheReport j before after lower upper v)
   unfolding FinishedBy outcomeBy
@@ -88,7 +88,7 @@ module _ (j : Job) (before : Buffers (List ℕ)) (a : Answer) (after : Buffers (
       inl (k, f .answer, refusal-number-some j (lengths before) k e, refusal-number-most j (lengths before) k e, f .untouched)
 
   pub one-answer : Finished j before a after
-      → ((number : ℕ) × (a ≡ refusedWith number) × (1 ≤ number) × (number ≤ 15) × (after ≡ before))
+      → ((number : ℕ) × (a ≡ refusedWith number) × (1 ≤ number) × (number ≤ 16) × (after ≡ before))
       ⊎ ((lower : ℕ → ℕ) × (upper : ℕ → ℕ) × (v : ℕ → Verdict) × (a ≡ acceptedWith (depthOf (jobChain j) (jobFormula j)))
       × TheReport j before after lower upper v)
   one-answer f = answered (refusal j (lengths before)) refl (by f)

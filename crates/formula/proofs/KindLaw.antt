@@ -17,7 +17,7 @@ use Rattle.verdicts.specs.declared.comparison.Comparison.{Comparison}
 use Rattle.verdicts.specs.declared.comparison.Comparison.the-variants.{Less, AtMost, AtLeast, More}
 use Rattle.texts.specs.Behind.{afterPart}
 use Rattle.texts.specs.Cut.{rest-is}
-use Rattle.grammar.specs.Tokens.{tokens, bytesOf, last-behind, one-tail, two-tail}
+use Rattle.grammar.specs.Tokens.{tokens, bytesOf, last-behind, one-tail, two-tail, three-tail}
 use Rattle.grammar.specs.Head.{headMeant}
 use Rattle.grammar.specs.declared.head.Head.{Head}
 use Rattle.grammar.specs.declared.head.Head.the-variants.{Ampersand}
@@ -98,7 +98,12 @@ module _ (s : Text) (i : ℕ) (h : PathStart) (is : h ≡ pathStartOf (tokens s)
   unfolding single andThen
   route-next place e x c p = rw (path-by-start, ← is, e, held-again, x)
 
-pub ruleset route-laws = (route-none, route-until, route-next)
+  pub route-between : (t v : ℕ) (u : Text) (n first second : ℕ) → h ≡ start.Between t v → u ≡ afterPart space (afterPart space (afterPart space s))
+      → n ≡ nodesSecond (tokens u) → first ≡ i - suc n → second ≡ i - 1 → RouteRead i (tokens s) (route.Is (path.Between t v first second))
+  unfolding pair andThen
+  route-between t v u n first second e w q x y c p = rw (path-by-start, ← is, e, three-tail s u w, ← q, held-again, x, y)
+
+pub ruleset route-laws = (route-none, route-until, route-next, route-between)
 
 -- b are the comparison and the threshold at the start of the rest s
 module _ (s : Text) (i : ℕ) (b : Bound) (is : BoundRead (tokens s) b) where
@@ -141,6 +146,10 @@ module _ (o : Path) (s : Text) where
   pub own-next : (x : ℕ) (u : Text) → o ≡ path.Next x → u ≡ afterPart space s → tokens u ≡ behindPath (pathMeant o) (tokens s)
   own-next x u e q = rw (e, one-tail s u q)
 
+  pub own-between : (t v x y : ℕ) (u : Text) → o ≡ path.Between t v x y → u ≡ afterPart space (afterPart space (afterPart space s))
+      → tokens u ≡ behindPath (pathMeant o) (tokens s)
+  own-between t v x y u e q = rw (e, three-tail s u q)
+
 -- k is a node's kind, and s the rest behind its first token
 module _ (k : Kind) (s : Text) where
   pub own-plain : (g : Kind) → k ≡ g → tokens s ≡ behindOwn g (tokens s) → tokens s ≡ behindOwn k (tokens s)
@@ -150,13 +159,14 @@ module _ (k : Kind) (s : Text) where
       → tokens u ≡ behindPath (pathMeant o) (tokens t) → tokens u ≡ behindOwn k (tokens s)
   own-chance c p o t u e q r = rw (e, two-tail s t q) r
 
-pub ruleset own-laws = (own-until, own-next, own-plain, own-chance)
+pub ruleset own-laws = (own-until, own-next, own-between, own-plain, own-chance)
 
 -- its operands stand in the row where it does
 module _ (i n : ℕ) (h : i < mostNodes) where
   path-below : (c : Comparison) (p : ℕ) (w : csl.Path) → OperandsBefore mostNodes (kind.Chance c p (pathHeld i n w))
   path-below c p (csl.until t a b) = (omega arith, omega arith)
   path-below c p (csl.nextMove a) = omega arith
+  path-below c p (csl.between t u a b) = (omega arith, omega arith)
 
   held-below : (f : csl.Formula) → OperandsBefore mostNodes (kindHeld [] i n f)
   held-below csl.always = tt

@@ -6,11 +6,11 @@ use mathlib.Core.List.{List, [], _∷_, _++_, headD, tail}
 use lib.ListN.{length, drop, set, replicate, length-append}
 use Rattle.csl.specs.Text.{Text}
 use Rattle.csl.specs.Limits.{mostNodes}
-use Rattle.csl.specs.Formula.{Formula, always, label, negated, both, chance, until, nextMove, nodes, nodesIn}
+use Rattle.csl.specs.Formula.{Formula, always, label, negated, both, chance, until, nextMove, between, nodes, nodesIn}
 use Rattle.csl.specs.Grammar.{Found, nothing, found, andThen, single, pair, Head, truth, name, bang, ampersand, chances, other, headOf, state, readState}
 use Rattle.grammar.specs.Left.{Leaves, left, last-length}
 use Rattle.grammar.specs.Fixed.{read, read-next, read-leaves}
-use Rattle.grammar.specs.declared.path_start.PathStart.the-variants.{Until, Next, Missing}
+use Rattle.grammar.specs.declared.path_start.PathStart.the-variants.{Until, Next, Between, Missing}
 use Rattle.formula.specs.Nodes.{node, blank}
 use Rattle.formula.specs.declared.nodes.Node.{Node}
 use Rattle.formula.specs.Listed.{kindHeld, listed, listedIn, stored}
@@ -176,6 +176,11 @@ module _ (names : List Text) where
         let us = behindTwo (behindTwo ts) in
         let k : length us ≤ m = omega (arith, two-shorter (behindTwo ts), two-shorter ts) in
         pair-lays m ih w ts us k (λ x y. chance c l (until t x y)) (λ x y. refl) (λ x y b. refl) (λ x y j n. rw (e, b hollow [], n))
+        (λ x y j. refl) (λ x y j q. refl) f rest (sym (b read w) ∙ p)
+    chance-lays e p (bounded c l (Between t v) b) =
+        let us = tail (behindTwo (behindTwo ts)) in
+        let k : length us ≤ m = omega (arith, one-shorter (behindTwo (behindTwo ts)), two-shorter (behindTwo ts), two-shorter ts) in
+        pair-lays m ih w ts us k (λ x y. chance c l (between t v x y)) (λ x y. refl) (λ x y b. refl) (λ x y j n. rw (e, b hollow [], n))
         (λ x y j. refl) (λ x y j q. refl) f rest (sym (b read w) ∙ p)
 
     head-lays : (hd : Head) → headOf w ≡ hd → state read w hd ts ≡ found f rest → Lays (w ∷ ts) f rest

@@ -17,6 +17,9 @@ until-operands x t a b e = rw e refl
 pub next-operands : (x : Path) (a : ℕ) → x ≡ path.Next a → One a ≡ operandsIn (pathMeant x)
 next-operands x a e = rw e refl
 
+pub between-operands : (x : Path) (t u a b : ℕ) → x ≡ path.Between t u a b → Two a b ≡ operandsIn (pathMeant x)
+between-operands x t u a b e = rw e refl
+
 pub negated-operands : (k : Kind) (a : ℕ) → k ≡ kind.Negated a → One a ≡ operandsOf k
 negated-operands k a e = rw e refl
 
@@ -27,4 +30,4 @@ pub chance-operands : (k : Kind) (c : Comparison) (p : ℕ) (o : Path) (r : Oper
     → r ≡ operandsOf k
 chance-operands k c p o r e h = rw e h
 
-pub ruleset operands-laws = (until-operands, next-operands, negated-operands, both-operands, chance-operands)
+pub ruleset operands-laws = (until-operands, next-operands, between-operands, negated-operands, both-operands, chance-operands)

@@ -1,18 +1,18 @@
 -- The size of a node over one state formula and over two, and of a path formula's. Assumes nothing.
-use mathlib.Core.Path.{_≡_, refl, sym, _∙_}
+use mathlib.Core.Path.{_≡_, refl, sym, _∙_, ap}
 use Prim.Native.Nat.{ℕ, _+_, _-_, _*_, _≤_, max}
 use native.Mathlib.Omega.{arith}
 use mathlib.Core.List.{List}
 use lib.ListN.{length, take, drop, length-drop}
 use Rattle.csl.specs.Text.{Text}
 use Rattle.csl.specs.Line.{space}
-use Rattle.csl.specs.Formula.{Formula, negated, both, chance, until, nextMove, nodes, nodesIn, levels, levelsIn, Comparison}
+use Rattle.csl.specs.Formula.{Formula, negated, both, chance, until, nextMove, between, nodes, nodesIn, levels, levelsIn, Comparison}
 use Rattle.csl.specs.Grammar.{Found, nothing, found, andThen, single, pair, path}
 use Rattle.grammar.specs.Left.{Leaves, none-read, left}
 use Rattle.grammar.specs.Fixed.{read, read-leaves}
 use Rattle.texts.specs.Cut.{rest-is}
 use Rattle.texts.specs.Behind.{afterPart}
-use Rattle.grammar.specs.Tokens.{tokens, bytesOf, last-behind, one-within, two-within, one-tail, two-tail}
+use Rattle.grammar.specs.Tokens.{tokens, bytesOf, last-behind, one-within, two-within, three-within, one-tail, two-tail, three-tail}
 use Rattle.grammar.specs.PathStart.{pathStartOf, path-by-start}
 use Rattle.grammar.specs.declared.path_start.PathStart.{PathStart}
 use Rattle.grammar.specs.declared.path_start.PathStart.the-variants as start
@@ -42,6 +42,10 @@ both-counted a b = (refl, refl)
 until-counted : (c : Comparison) (p t : ℕ) → Counted (λ a b. chance c p (until t a b))
 unfolding nodes nodesIn levels levelsIn
 until-counted c p t a b = (refl, refl)
+
+between-counted : (c : Comparison) (p t u : ℕ) → Counted (λ a b. chance c p (between t u a b))
+unfolding nodes nodesIn levels levelsIn
+between-counted c p t u a b = (refl, refl)
 
 module _ (make : Formula → Formula → Formula) (counted : Counted make) where
   over-first : (f : Formula) (fd : Found) → sizeOf (andThen fd λ b rest. found (make f b) rest) ≡ overTwo (nodes f) (levels f) (sizeOf fd)
@@ -138,13 +142,25 @@ module _ (s : Text) (h : PathStart) (is : h ≡ pathStartOf (tokens s)) where
   pub path-wrong : h ≡ start.Missing → Pathed s Wrong
   path-wrong e = (λ c p. rw (path-by-start, ← is, e), omega arith)
 
-  pub path-until : (t : ℕ) (u : Text) (r : Size) → h ≡ start.Until t → u ≡ afterPart space (afterPart space s) → Paired u r → Pathed s r
+  -- two operands, which begin the rest u behind it
+  path-two : (u : Text) (r : Size) (make : Comparison → ℕ → Formula → Formula → Formula) → ((c : Comparison) (p : ℕ) → Counted (make c p))
+      → ((c : Comparison) (p : ℕ) → path read c p (tokens s) ≡ pair read (make c p) (tokens u)) → length u ≤ length s → Paired u r → Pathed s r
   unfolding pair
-  path-until t u r e v q = (
-    λ c p. rw (path-by-start, ← is, e, two-tail s u v)
-        (q .0 ∙ sym (over-both (λ a b. chance c p (until t a b)) (until-counted c p t) (read (tokens u)))),
-    fits-wider r _ _ (q .1) (omega (arith, two-within s u v)),
+  path-two u r make counted then l q = (
+    λ c p. q .0 ∙ sym (over-both (make c p) (counted c p) (read (tokens u))) ∙ ap sizeOf (sym (then c p)),
+    fits-wider r _ _ (q .1) (omega arith),
   )
+
+  pub path-until : (t : ℕ) (u : Text) (r : Size) → h ≡ start.Until t → u ≡ afterPart space (afterPart space s) → Paired u r → Pathed s r
+  path-until t u r e v =
+      path-two u r (λ c p a b. chance c p (until t a b)) (λ c p. until-counted c p t) (λ c p. rw (path-by-start, ← is, e, two-tail s u v))
+      (two-within s u v)
+
+  pub path-between : (t v : ℕ) (u : Text) (r : Size) → h ≡ start.Between t v → u ≡ afterPart space (afterPart space (afterPart space s))
+      → Paired u r → Pathed s r
+  path-between t v u r e w =
+      path-two u r (λ c p a b. chance c p (between t v a b)) (λ c p. between-counted c p t v) (λ c p. rw (path-by-start, ← is, e, three-tail s u w))
+      (three-within s u w)
 
   pub path-next : (u : Text) (r : Size) → h ≡ start.Next → u ≡ afterPart space s → Singled u r → Pathed s r
   path-next u r e v q = (

@@ -2,8 +2,8 @@
 use mathlib.Core.Path.{_≡_, refl, ap, _∙_}
 use Prim.Native.Nat.{ℕ, suc, _+_, _-_, _≤_, _<_}
 use native.Mathlib.Omega.{arith}
-use mathlib.Core.Bool.{Bool, true, false, and-eq-true-iff}
-use mathlib.Core.List.{List}
+use mathlib.Core.Bool.{Bool, true, false, _&&_, and-eq-true-iff}
+use mathlib.Core.List.{List, _++_}
 use lib.Dec.{ltb}
 use borrow.Author.Tests.{ltb-true, ltb-false}
 use Rattle.csl.specs.Text.{Text, among}
@@ -32,6 +32,7 @@ path-some : (w : csl.Path) → 1 ≤ nodesIn w
 unfolding nodesIn
 path-some (csl.until t a c) = omega (arith, nodes-some a)
 path-some (csl.nextMove a) = nodes-some a
+path-some (csl.between t u a c) = omega (arith, nodes-some a)
 
 -- what a node of each kind keeps at its place
 pub record ByKind (names : List Text) (P : ℕ → Kind → Type 0) : Type 0 where
@@ -64,10 +65,20 @@ module _ (names : List Text) (P : ℕ → Kind → Type 0) (h : ByKind names P) 
           let d : b + m ≡ k = omega arith in
           rw d at z
 
+  -- of the nodes of a formula, and of two formulas
+  abbrev EachOf : Formula → Type 0
+  EachOf f = (b : ℕ) → Stands ns (listed names f b) b → labelsPass (among names) f ≡ true → EachFrom b (nodes f)
+
+  each-two : (a c : Formula) (b : ℕ) → EachOf a → EachOf c → Stands ns (listed names a b ++ listed names c (b + nodes a)) b
+      → labelsPass (among names) a && labelsPass (among names) c ≡ true → EachFrom b (nodes a + nodes c)
+  each-two a c b x y i l =
+      let m = and-eq-true-iff _ _ .0 l in
+      both-rows b (nodes a) (nodes c) (x b (first-held names ns a c b i) (m .0)) (y (b + nodes a) (second-held names ns a c b i) (m .1))
+
   mutual
     unfolding nodes nodesIn listedIn labelsPass labelsPassIn
 
-    pub each : (f : Formula) (b : ℕ) → Stands ns (listed names f b) b → labelsPass (among names) f ≡ true → EachFrom b (nodes f)
+    pub each : (f : Formula) → EachOf f
     each csl.always b i l = λ k m n. let e : b ≡ k = omega arith in rw (← e, always-held names ns b i) (h .on-always b)
     each (csl.label w) b i l = λ k m n. let e : b ≡ k = omega arith in rw (← e, label-held names ns w b i) (h .on-label w l b)
     each (csl.negated a) b i l =
@@ -75,10 +86,7 @@ module _ (names : List Text) (P : ℕ → Kind → Type 0) (h : ByKind names P) 
         one-more b (nodes a) (each a b (o .below) l) (rw (o .own) (h .on-negated (b + nodes a) (omega (arith, nodes-some a))))
     each (csl.both a c) b i l =
         let o = both-held names ns a c b i in
-        let m = and-eq-true-iff _ _ .0 l in
-        one-more b (nodes a + nodes c)
-        (both-rows b (nodes a) (nodes c) (each a b (first-held names ns a c b (o .below)) (m .0))
-        (each c (b + nodes a) (second-held names ns a c b (o .below)) (m .1)))
+        one-more b (nodes a + nodes c) (each-two a c b (λ k h m. each a k h m) (λ k h m. each c k h m) (o .below) l)
         (rw (o .own) (h .on-both (b + (nodes a + nodes c)) (nodes c) (omega (arith, nodes-some a))))
     each (csl.chance r p w) b i l =
         let o = chance-held names ns r p w b i in
@@ -86,15 +94,15 @@ module _ (names : List Text) (P : ℕ → Kind → Type 0) (h : ByKind names P) 
         (rw (o .own) (h .on-chance (held r) p (b + nodesIn w) (lastNodes w) w (omega (arith, path-some w))))
 
     each-in : (w : csl.Path) (b : ℕ) → Stands ns (listedIn names w b) b → labelsPassIn (among names) w ≡ true → EachFrom b (nodesIn w)
-    each-in (csl.until t a c) b i l =
-        let m = and-eq-true-iff _ _ .0 l in
-        both-rows b (nodes a) (nodes c) (each a b (first-held names ns a c b i) (m .0)) (each c (b + nodes a) (second-held names ns a c b i) (m .1))
+    each-in (csl.until t a c) b i l = each-two a c b (λ k h m. each a k h m) (λ k h m. each c k h m) i l
     each-in (csl.nextMove a) b i l = each a b i l
+    each-in (csl.between t u a c) b i l = each-two a c b (λ k h m. each a k h m) (λ k h m. each c k h m) i l
 
 -- operands come before their node
 path-before : (c : Comparison) (p k n : ℕ) (w : csl.Path) → 1 ≤ k → OperandsBefore k (kind.Chance c p (pathHeld k n w))
 path-before c p k n (csl.until t x y) h = (omega arith, omega arith)
 path-before c p k n (csl.nextMove x) h = omega arith
+path-before c p k n (csl.between t u x y) h = (omega arith, omega arith)
 
 pub before-kept : (names : List Text) → ByKind names OperandsBefore
 before-kept names =

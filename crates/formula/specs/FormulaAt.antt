@@ -5,7 +5,7 @@ use mathlib.Core.List.{List, []}
 use lib.ListN.{getD}
 use Rattle.csl.specs.Text.{Text}
 use Rattle.csl.specs.Formula as csl
-use Rattle.csl.specs.Formula.{Formula, always, label, negated, both, chance, until, nextMove, PathOf, untilOf, nextOf, mapped}
+use Rattle.csl.specs.Formula.{Formula, always, label, negated, both, chance, until, nextMove, between, PathOf, untilOf, nextOf, betweenOf, mapped}
 use Rattle.verdicts.specs.Paper.{comparisonOf}
 use Rattle.formula.specs.Nodes.{kindAt, pathMeant}
 use Rattle.formula.specs.declared.nodes.Kind.{Kind}
@@ -16,6 +16,7 @@ use Rattle.formula.specs.declared.nodes.Node.{Node}
 abbrev pub pathOver : PathOf Formula → csl.Path
 pathOver (untilOf t a b) = until t a b
 pathOver (nextOf a) = nextMove a
+pathOver (betweenOf t u a b) = between t u a b
 
 -- a node's formula, where `look` has its operands': a label by the name at its place
 abbrev pub formulaOver : List Text → (ℕ → Formula) → Kind → Formula

@@ -5,7 +5,7 @@ use lib.ListN.{set, replicate}
 use Rattle.csl.specs.Text.{Text}
 use Rattle.csl.specs.Limits.{mostNodes}
 use Rattle.csl.specs.Labels.{placeOf}
-use Rattle.csl.specs.Formula.{PathOf, untilOf, nextOf, always, nodes}
+use Rattle.csl.specs.Formula.{PathOf, untilOf, nextOf, betweenOf, always, nodes}
 use Rattle.csl.specs.Grammar.{Found, nothing, found, Reader, Head, truth, name, bang, ampersand, chances, other, headOf, state}
 use Rattle.grammar.specs.Fixed.{read}
 use Rattle.formula.specs.declared.nodes.Kind.{Kind}
@@ -63,10 +63,11 @@ headKind names i w other ts = kind.Always
 abbrev pub topKind : List Text → ℕ → Text → List Text → Kind
 topKind names i w ts = headKind names i w (headOf w) ts
 
--- the tokens behind a path's own: `U` and its hours, or `X`
+-- the tokens behind a path's own: `U` and its hours, `X`, or `V` and its two times
 abbrev pub behindPath : PathOf ℕ → List Text → List Text
 behindPath (untilOf t a b) ts = behindTwo ts
 behindPath (nextOf a) ts = tail ts
+behindPath (betweenOf t u a b) ts = tail (behindTwo ts)
 
 -- the tokens behind a node's own: a `P` has a comparison, a threshold and its path's
 abbrev pub behindOwn : Kind → List Text → List Text

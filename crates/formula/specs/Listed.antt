@@ -7,7 +7,7 @@ use Rattle.csl.specs.Text.{Text}
 use Rattle.csl.specs.Limits.{mostNodes}
 use Rattle.csl.specs.Labels.{placeOf}
 use Rattle.csl.specs.Formula as csl
-use Rattle.csl.specs.Formula.{Formula, always, label, negated, both, chance, until, nextMove, nodes, nodesIn}
+use Rattle.csl.specs.Formula.{Formula, always, label, negated, both, chance, until, nextMove, between, nodes, nodesIn}
 use Rattle.verdicts.specs.declared.comparison.Comparison.{Comparison}
 use Rattle.verdicts.specs.declared.comparison.Comparison.the-variants.{Less, AtMost, AtLeast, More}
 use Rattle.formula.specs.declared.nodes.Path.{Path}
@@ -29,6 +29,7 @@ held csl.More = More
 abbrev pub pathHeld : ℕ → ℕ → csl.Path → Path
 pathHeld i n (until t a b) = path.Until t (i - suc n) (i - 1)
 pathHeld i n (nextMove a) = path.Next (i - 1)
+pathHeld i n (between t u a b) = path.Between t u (i - suc n) (i - 1)
 
 abbrev pub kindHeld : List Text → ℕ → ℕ → Formula → Kind
 kindHeld names i n always = kind.Always
@@ -41,6 +42,7 @@ kindHeld names i n (chance r p w) = kind.Chance (held r) p (pathHeld i n w)
 abbrev pub lastNodes : csl.Path → ℕ
 lastNodes (until t a b) = nodes b
 lastNodes (nextMove a) = nodes a
+lastNodes (between t u a b) = nodes b
 
 -- its nodes, from place b on, and those of a path formula's operands
 unfoldable mutual
@@ -55,6 +57,7 @@ unfoldable mutual
   pub listedIn : List Text → csl.Path → ℕ → List Node
   listedIn names (until t a c) b = listed names a b ++ listed names c (b + nodes a)
   listedIn names (nextMove a) b = listed names a b
+  listedIn names (between t u a c) b = listed names a b ++ listed names c (b + nodes a)
 
 -- the row of a formula of at most 64 nodes
 unfoldable pub stored : List Text → Formula → Nodes

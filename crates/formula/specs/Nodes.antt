@@ -5,7 +5,7 @@ use mathlib.Core.List.{List, []}
 use lib.ListN.{length, getD, replicate}
 use Rattle.csl.specs.Text.{Text}
 use Rattle.csl.specs.Labels.{placeOf}
-use Rattle.csl.specs.Formula.{PathOf, untilOf, nextOf}
+use Rattle.csl.specs.Formula.{PathOf, untilOf, nextOf, betweenOf}
 use Rattle.formula.specs.declared.nodes.Path.{Path}
 use Rattle.formula.specs.declared.nodes.Path.the-variants as path
 use Rattle.formula.specs.declared.nodes.Kind.{Kind}
@@ -32,6 +32,7 @@ same-throughout (suc n) (suc i) x = same-throughout n i x
 abbrev pub pathMeant : Path → PathOf ℕ
 pathMeant (path.Until t a b) = untilOf t a b
 pathMeant (path.Next a) = nextOf a
+pathMeant (path.Between t u a b) = betweenOf t u a b
 
 -- a label's place is that of a name
 abbrev pub LabelKnown : List Text → Kind → Type 0

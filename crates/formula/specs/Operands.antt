@@ -1,6 +1,6 @@
 -- The operands of a node, by their places in the row. Assumes nothing.
 use Prim.Native.Nat.{ℕ, _<_}
-use Rattle.csl.specs.Formula.{PathOf, untilOf, nextOf}
+use Rattle.csl.specs.Formula.{PathOf, untilOf, nextOf, betweenOf}
 use Rattle.formula.specs.Nodes.{pathMeant}
 use Rattle.formula.specs.declared.nodes.Kind.{Kind}
 use Rattle.formula.specs.declared.nodes.Kind.the-variants as kind
@@ -10,6 +10,7 @@ use Rattle.formula.specs.declared.operands.Operands.the-variants.{None, 
 abbrev pub operandsIn : PathOf ℕ → Operands
 operandsIn (untilOf t a b) = Two a b
 operandsIn (nextOf a) = One a
+operandsIn (betweenOf t u a b) = Two a b
 
 abbrev pub operandsOf : Kind → Operands
 operandsOf kind.Always = None

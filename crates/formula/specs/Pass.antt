@@ -4,33 +4,35 @@ use mathlib.Core.List.{List}
 use mathlib.Core.Bool.{Bool, true, not, _&&_, _||_}
 use lib.Dec.{leb, ltb, eqb}
 use Rattle.csl.specs.Limits.{mostThreshold, mostHundredths, mostRateHundredths}
-use Rattle.csl.specs.Formula.{PathOf, timesPass, phasesPass}
+use Rattle.csl.specs.Formula.{PathOf, timesPass, twoPhases, phasesPass, timesInOrder}
 use Rattle.formula.specs.declared.nodes.Kind.{Kind}
 use Rattle.formula.specs.declared.nodes.Kind.the-variants as kind
 use Rattle.formula.specs.declared.nodes.Node.{Node}
 use Rattle.formula.specs.declared.nodes.Nodes.{Nodes}
 use Rattle.formula.specs.Nodes.{kindAt, pathMeant}
 use Rattle.formula.specs.declared.pass.Test.{Test}
-use Rattle.formula.specs.declared.pass.Test.the-variants.{Labels, Limits, Load, NoSearch}
+use Rattle.formula.specs.declared.pass.Test.the-variants.{Labels, Limits, Order, Load, NoSearch}
 
 -- a rate times hundredths of an hour within the limit
 abbrev pub lightOf : ℕ → ℕ → Bool
 lightOf q t = leb (q * t) mostRateHundredths
 
--- no search along the moves may decide a `P` over this path: it may with the threshold 0, where an until has time
+-- no search along the moves may decide a `P` over this path: it may with the threshold 0, where an until of one phase has time
 abbrev pub unsearched : {A : Type 0} → ℕ → PathOf A → Bool
-unsearched p o = not (eqb p 0) || timesPass (λ t. eqb t 0) o
+unsearched p o = not (eqb p 0) || twoPhases o || timesPass (λ t. eqb t 0) o
 
 -- what a label's place, and the threshold and the path formula of a `P`, have to pass
 abbrev pub placePasses : Test → ℕ → Bool
 placePasses (Labels names) i = ltb i names
 placePasses Limits i = true
+placePasses Order i = true
 placePasses (Load q) i = true
 placePasses NoSearch i = true
 
 abbrev pub pathPasses : {A : Type 0} → Test → ℕ → PathOf A → Bool
 pathPasses (Labels names) p o = true
 pathPasses Limits p o = leb p mostThreshold && timesPass (λ t. leb t mostHundredths) o
+pathPasses Order p o = timesInOrder o
 pathPasses (Load q) p o = phasesPass (lightOf q) o
 pathPasses NoSearch p o = unsearched p o
 

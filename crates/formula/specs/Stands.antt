@@ -59,6 +59,7 @@ module _ (names : List Text) where
     pub length-in : (w : csl.Path) (b : ℕ) → length (listedIn names w b) ≡ nodesIn w
     length-in (csl.until t a c) b = simp (length-append, length-listed a b, length-listed c (b + nodes a))
     length-in (csl.nextMove a) b = length-listed a b
+    length-in (csl.between t u a c) b = simp (length-append, length-listed a b, length-listed c (b + nodes a))
 
   module _ (ns : List Node) where
     -- the nodes of two operands

@@ -13,7 +13,7 @@ use Rattle.csl.specs.Text.{Text, among}
 use Rattle.csl.specs.Limits.{mostLevels, mostThreshold, mostHundredths, mostRateHundredths}
 use Rattle.csl.specs.Labels.{placeOf}
 use Rattle.csl.specs.Formula as csl
-use Rattle.csl.specs.Formula.{Formula, nodes, nodesIn, levels, levelsIn, labelsPass, pathsPass, timesPass, phasesPass}
+use Rattle.csl.specs.Formula.{Formula, nodes, nodesIn, levels, levelsIn, labelsPass, pathsPass, timesPass, phasesPass, timesInOrder}
 use Rattle.formula.specs.declared.nodes.Kind.{Kind}
 use Rattle.formula.specs.declared.nodes.Kind.the-variants as kind
 use Rattle.formula.specs.declared.nodes.Node.{Node}
@@ -22,7 +22,7 @@ use Rattle.formula.specs.Operands.{OperandsBefore}
 use Rattle.formula.specs.FormulaAt.{formulaAt}
 use Rattle.formula.specs.Pass.{placePasses, pathPasses, allBelow, allPassed}
 use Rattle.formula.specs.declared.pass.Test.{Test}
-use Rattle.formula.specs.declared.pass.Test.the-variants.{Labels, Limits, Load}
+use Rattle.formula.specs.declared.pass.Test.the-variants.{Labels, Limits, Order, Load}
 use Rattle.formula.specs.Listed.{listed, stored}
 use Rattle.formula.specs.Names.{among-place}
 use Rattle.formula.specs.Stands.{Stands, length-listed}
@@ -44,6 +44,7 @@ mutual
   levels-in : (w : csl.Path) → levelsIn w ≤ nodesIn w
   levels-in (csl.until t a b) = omega (arith, levels-nodes a, levels-nodes b)
   levels-in (csl.nextMove a) = levels-nodes a
+  levels-in (csl.between t u a b) = omega (arith, levels-nodes a, levels-nodes b)
 
 module _ (names : List Text) (f : Formula) where
   stands : Stands ((stored names f) .nodes) (listed names f 0) 0
@@ -99,6 +100,10 @@ module _ (names : List Text) (f : Formula) where
   -- 13: "threshold over 1,000,000,000 or hours over 8,760"
   pub limits-tested : allPassed Limits (stored names f) ≡ pathsPass (λ p o. leb p mostThreshold && timesPass (λ t. leb t mostHundredths) o) f
   limits-tested = stored-tests Limits ∙ paths-tree _ f
+
+  -- 16: "when the first time exceeds the second"
+  pub order-tested : allPassed Order (stored names f) ≡ pathsPass (λ p o. timesInOrder o) f
+  order-tested = stored-tests Order ∙ paths-tree _ f
 
   -- 14: "q × t over 64,000,000 for some until"
   pub load-tested : (q : ℕ) → allPassed (Load q) (stored names f) ≡ pathsPass (λ p o. phasesPass (λ t. leb (q * t) mostRateHundredths) o) f

@@ -66,14 +66,21 @@ fn second_nodes(s: &[u8]) -> usize
 fn read_path(s: &[u8], i: usize) -> Route
     ensures { λ r. ⌜ RouteRead i (tokens (now (s .entry))) r ⌝ }
 {
+    let last = before(i, 0);
     match grammar::read_path_start(s) {
         PathStart::Missing => Route::Missing,
         PathStart::Until(hundredths) => Route::Is(Path::Until {
             hundredths: hundredths,
             first: before(i, second_nodes(grammar::after_two(s))),
-            second: before(i, 0),
+            second: last,
         }),
-        PathStart::Next => Route::Is(Path::Next(before(i, 0))),
+        PathStart::Next => Route::Is(Path::Next(last)),
+        PathStart::Between(from, to) => Route::Is(Path::Between {
+            from: from,
+            to: to,
+            first: before(i, second_nodes(grammar::after_three(s))),
+            second: last,
+        }),
     }
 }
 
@@ -120,6 +127,12 @@ fn behind_path<'a>(path: Path, s: &'a [u8]) -> &'a [u8]
             second: _,
         } => grammar::after_two(s),
         Path::Next(_) => texts::after(s, b' '),
+        Path::Between {
+            from: _,
+            to: _,
+            first: _,
+            second: _,
+        } => grammar::after_three(s),
     }
 }
 

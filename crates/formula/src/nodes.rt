@@ -1,7 +1,8 @@
 // The nodes of a formula in a row, by value: operands before their node, the outermost node last.
 use verdicts::Comparison;
 
-// A path formula: an until with its hours, in hundredths, and the places of its two operands; or the next move with the place of its operand.
+// A path formula: an until with its hours and the places of its two operands; the next move with the place of its operand; or an until between
+// two times, with them and the places of its two operands. Hours and times are in hundredths of an hour.
 pub enum Path {
     Until {
         hundredths: u64,
@@ -9,6 +10,12 @@ pub enum Path {
         second: usize,
     },
     Next(usize),
+    Between {
+        from: u64,
+        to: u64,
+        first: usize,
+        second: usize,
+    },
 }
 
 // A node: a label by its place among the names, operands by their places in the row.

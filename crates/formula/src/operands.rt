@@ -23,6 +23,12 @@ fn path_operands(path: Path) -> Operands
             second,
         } => Operands::Two(first, second),
         Path::Next(operand) => Operands::One(operand),
+        Path::Between {
+            from: _,
+            to: _,
+            first,
+            second,
+        } => Operands::Two(first, second),
     }
 }
 

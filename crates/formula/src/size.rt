@@ -149,6 +149,7 @@ fn size_path(s: &[u8]) -> Size
         PathStart::Missing => Size::Wrong,
         PathStart::Until(_) => size_pair(grammar::after_two(s)),
         PathStart::Next => size_single(texts::after(s, b' ')),
+        PathStart::Between(_, _) => size_pair(grammar::after_three(s)),
     }
 }
 

@@ -9,8 +9,8 @@ use lib.ListN.{length}
 use Rattle.csl.specs.Text.{Text, same, every}
 use Rattle.csl.specs.Labels.{isWord}
 use Rattle.csl.specs.Hours.{hundredthsOf}
-use Rattle.csl.specs.Formula.{Formula, negated, both, chance, until, nextMove, Comparison}
-use Rattle.csl.specs.Grammar.{Found, nothing, found, Reader, andThen, comparisonOf, numberOf, onToken, single, pair, PathHead, untils, nexts, noPath, pathHeadOf, pathBehind, path, Head, truth, name, bang, ampersand, chances, other, headOf, state, readState}
+use Rattle.csl.specs.Formula.{Formula, negated, both, chance, until, nextMove, between, Comparison}
+use Rattle.csl.specs.Grammar.{Found, nothing, found, Reader, andThen, comparisonOf, numberOf, onToken, single, pair, PathHead, untils, nexts, betweens, noPath, pathHeadOf, pathBehind, path, Head, truth, name, bang, ampersand, chances, other, headOf, state, readState}
 use Rattle.grammar.specs.Left.{Leaves, none-read, left, Steady, steps-leave, last-length}
 
 -- a state formula at the head of the tokens, as csl reads it
@@ -51,6 +51,9 @@ module _ (n : ℕ) (r s : Reader) (agree : Agree n r s) (steady : Steady s) wher
   path-behind-agrees c p untils ts l =
       token-agrees hundredthsOf ts _ _ λ t rest k. pair-agrees (λ a b. chance c p (until t a b)) rest (omega arith)
   path-behind-agrees c p nexts ts l = single-agrees (λ a. chance c p (nextMove a)) ts l
+  path-behind-agrees c p betweens ts l =
+      token-agrees hundredthsOf ts _ _ λ t more k. token-agrees hundredthsOf more _ _ λ u rest m.
+      pair-agrees (λ a b. chance c p (between t u a b)) rest (omega arith)
   path-behind-agrees c p noPath ts l = refl
 
   path-agrees : (c : Comparison) (p : ℕ) → Agree n (path r c p) (path s c p)

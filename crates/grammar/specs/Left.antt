@@ -8,8 +8,8 @@ use lib.ListN.{length, drop, length-drop}
 use lib.Seq.{drop-drop}
 use Rattle.csl.specs.Text.{Text}
 use Rattle.csl.specs.Hours.{hundredthsOf}
-use Rattle.csl.specs.Formula.{Formula, negated, both, chance, until, nextMove, Comparison}
-use Rattle.csl.specs.Grammar.{Found, nothing, found, Reader, andThen, comparisonOf, numberOf, onToken, single, pair, PathHead, untils, nexts, noPath, pathHeadOf, pathBehind, path, Head, truth, name, bang, ampersand, chances, other, headOf, state, readState}
+use Rattle.csl.specs.Formula.{Formula, negated, both, chance, until, nextMove, between, Comparison}
+use Rattle.csl.specs.Grammar.{Found, nothing, found, Reader, andThen, comparisonOf, numberOf, onToken, single, pair, PathHead, untils, nexts, betweens, noPath, pathHeadOf, pathBehind, path, Head, truth, name, bang, ampersand, chances, other, headOf, state, readState}
 
 -- the last of the tokens ts
 pub record Last (ts rest : List Text) : Type 0 where
@@ -72,6 +72,8 @@ module _ (read : Reader) (steady : Steady read) where
   unfolding pathBehind
   path-behind-leaves r p untils ts = token-leaves hundredthsOf ts _ λ t rest. pair-leaves (λ a b. chance r p (until t a b)) rest
   path-behind-leaves r p nexts ts = single-leaves (λ a. chance r p (nextMove a)) ts
+  path-behind-leaves r p betweens ts =
+      token-leaves hundredthsOf ts _ λ t more. token-leaves hundredthsOf more _ λ u rest. pair-leaves (λ a b. chance r p (between t u a b)) rest
   path-behind-leaves r p noPath ts = none-read
 
   pub path-leaves : (r : Comparison) (p : ℕ) → Steady (path read r p)

@@ -1,6 +1,6 @@
 -- How csl's reader goes on behind a token that spells something, and in a path formula: by the first token, an empty one where there is none,
 -- which spells nothing. Assumes nothing.
-use mathlib.Core.Path.{_≡_, refl}
+use mathlib.Core.Path.{_≡_, refl, _∙_}
 use Prim.Native.Nat.{ℕ}
 use mathlib.Core.List.{List, [], _∷_, headD, tail}
 use mathlib.Core.Option.{Option, none, some}
@@ -35,10 +35,19 @@ pub number-then : (ts : List Text) (next : ℕ → List Text → Found) → onTo
 unfolding numberOf isNumber every
 number-then = token-then numberOf refl
 
-pub hours-then : (ts : List Text) (next : ℕ → List Text → Found)
+hours-then : (ts : List Text) (next : ℕ → List Text → Found)
     → onToken hundredthsOf ts next ≡ tokenThen (hundredthsOf (headD ts [])) next (tail ts)
 unfolding hundredthsOf hundredthsIn parts isNumber every
 hours-then = token-then hundredthsOf refl
+
+-- behind hours, where `goal` says what comes of them and what where there are none
+pub hours-by : (ts : List Text) (next : ℕ → List Text → Found) (goal : Option ℕ → Found) → nothing ≡ goal none
+    → ((t : ℕ) → next t (tail ts) ≡ goal (some t)) → onToken hundredthsOf ts next ≡ goal (hundredthsOf (headD ts []))
+hours-by ts next goal a b = hours-then ts next ∙ go (hundredthsOf (headD ts []))
+  where
+    go : (o : Option ℕ) → tokenThen o next (tail ts) ≡ goal o
+    go none = a
+    go (some t) = b t
 
 -- a path formula, by its first token
 pub path-then : (read : Reader) (r : Comparison) (p : ℕ) (ts : List Text)

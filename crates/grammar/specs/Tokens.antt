@@ -74,15 +74,21 @@ module _ (mark : ℕ) where
 pub token-within : (s w t : Text) → w ≡ headD (tokens s) [] → t ≡ afterPart space s → length w + length t ≤ length s
 token-within s w t e f = rw (e, f) (behind-length space s)
 
--- t is the rest s after its first token, or its first two
+-- t is the rest s after its first token, its first two, or its first three
 pub one-within : (s t : Text) → t ≡ afterPart space s → length t ≤ length s
 one-within s t e = rw e (after-within space s)
 
 pub two-within : (s t : Text) → t ≡ afterPart space (afterPart space s) → length t ≤ length s
 two-within s t e = rw e (omega (arith, after-within space (afterPart space s), after-within space s))
 
+pub three-within : (s t : Text) → t ≡ afterPart space (afterPart space (afterPart space s)) → length t ≤ length s
+three-within s t e = rw e (omega (arith, one-within (afterPart space (afterPart space s)) _ refl, two-within s _ refl))
+
 pub one-tail : (s t : Text) → t ≡ afterPart space s → tail (tokens s) ≡ tokens t
 one-tail s t e = rw (e, behind-tail)
 
 pub two-tail : (s t : Text) → t ≡ afterPart space (afterPart space s) → tail (tail (tokens s)) ≡ tokens t
 two-tail s t e = rw (e, behind-tail, behind-tail)
+
+pub three-tail : (s t : Text) → t ≡ afterPart space (afterPart space (afterPart space s)) → tail (tail (tail (tokens s))) ≡ tokens t
+three-tail s t e = rw (e, behind-tail, behind-tail, behind-tail)

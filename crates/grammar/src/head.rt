@@ -46,3 +46,11 @@ pub fn after_two<'a>(s: &'a [u8]) -> &'a [u8]
     let t = texts::after(s, b' ');
     texts::after(t, b' ')
 }
+
+// The rest after the first three tokens.
+pub fn after_three<'a>(s: &'a [u8]) -> &'a [u8]
+    ensures { λ r. ⌜ now r ≡ afterPart space (afterPart space (afterPart space (now (s .entry)))) ⌝ }
+{
+    let t = after_two(s);
+    texts::after(t, b' ')
+}

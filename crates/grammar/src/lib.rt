@@ -8,6 +8,7 @@ mod path_start;
 pub use chance::Bound;
 pub use chance::read_bound;
 pub use head::Head;
+pub use head::after_three;
 pub use head::after_two;
 pub use head::read_head;
 pub use path_start::PathStart;

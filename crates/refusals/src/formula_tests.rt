@@ -1,4 +1,4 @@
-// Tests 10 to 14, which a formula's text decides over a sheet that passed.
+// Tests 10 to 14 and 16, which a formula's text decides over a sheet that passed.
 use crate::tested::Tested;
 use formula::Nodes;
 use formula::Reading;
@@ -26,7 +26,7 @@ pub struct TestedFormula {
     pub nodes: Nodes,
 }
 
-// Tests 10 to 14 of what was read, where there are `names` label names and the uniformisation rate is q.
+// Tests 10 to 14 and 16 of what was read, 16 before 14, where there are `names` label names and the uniformisation rate is q.
 fn judge(reading: Reading, names: usize, q: u64) -> Tested
     requires { ⌜ reading .nodes .count ≤ mostNodes ⌝ }
     ensures { λ r. ⌜ ((ns : List Text) (o : Option csl.Formula)
@@ -45,13 +45,16 @@ fn judge(reading: Reading, names: usize, q: u64) -> Tested
     if !formula::all_pass(nodes, Test::Limits) {
         return Tested::Refused(13);
     }
+    if !formula::all_pass(nodes, Test::Order) {
+        return Tested::Refused(16);
+    }
     if !formula::all_pass(nodes, Test::Load(q)) {
         return Tested::Refused(14);
     }
     Tested::Passed
 }
 
-// Tests 10 to 14 of a formula's text over a sheet that passed: its `count` label names, each behind a comma, and its uniformisation rate.
+// Tests 10 to 14 and 16 of a formula's text over a sheet that passed: its `count` label names, each behind a comma, and its uniformisation rate.
 pub fn test_formula(text: &[u8], names: &[u8], count: usize, q: u64) -> TestedFormula
     requires { ⌜ count ≡ length (partsBehind comma (now names)) ⌝ }
     ensures { λ r. ⌜ r .tested ≡ testedBy (firstOf (formulaTests

@@ -1,7 +1,7 @@
 -- What a job whose texts are not turned back has at most, and that the program's buffers are long enough for it. Assumes nothing.
 use mathlib.Core.Path.{_≡_}
 use mathlib.Core.Bool.{true, false, and-eq-true-iff}
-use Prim.Native.Nat.{ℕ, _+_, _*_, _≤_, _<_}
+use Prim.Native.Nat.{ℕ, zero, suc, _+_, _*_, _-_, _≤_, _<_}
 use native.Mathlib.Omega.{arith}
 use native.Mathlib.Nat.{mul-le-mul-right}
 use lib.ListN.{length}
@@ -9,7 +9,7 @@ use lib.Dec.{leb}
 use borrow.Author.Tests.{leb-true, le-ltb}
 use Rattle.csl.specs.Text.{any}
 use Rattle.csl.specs.Limits.{billion, mostNodes, mostRateHundredths}
-use Rattle.csl.specs.Formula.{Formula, always, label, negated, both, chance, Path, until, nextMove, pathOf, Comparison, nodes, phasesPass, pathsPass}
+use Rattle.csl.specs.Formula.{Formula, always, label, negated, both, chance, Path, until, nextMove, between, pathOf, Comparison, nodes, phasesPass, pathsPass}
 use Rattle.csl.specs.Chain.{Chain, topRate, load, depth}
 use Rattle.csl.specs.Path.{meaning}
 use Rattle.csl.specs.Backing.{PathBacked, ChanceKeeps}
@@ -44,11 +44,20 @@ depth-low : (c : Chain) (t : ℕ) → topRate c * t ≤ mostRateHundredths → d
 unfolding depth load
 depth-low c t h = omega arith
 
-path-within : (c : Chain) (w : Path) → phasesPass (λ t. leb (topRate c * t) mostRateHundredths) (pathOf w) ≡ true → meaning c (pathOf w) .depth ≤ 168
-path-within c (until t a b) h = depth-low c t (leb-true (topRate c * t) mostRateHundredths h)
+-- that of a path: of one phase, or of two
+path-within : (c : Chain) (w : Path) → phasesPass (λ t. leb (topRate c * t) mostRateHundredths) (pathOf w) ≡ true → meaning c (pathOf w) .depth ≤ 336
+path-within c (until t a b) h = omega (arith, depth-low c t (leb-true (topRate c * t) mostRateHundredths h))
 path-within c (nextMove a) h = omega arith
+path-within c (between zero u a b) h = omega (arith, depth-low c u (leb-true (topRate c * u) mostRateHundredths h))
+path-within c (between (suc t) u a b) h =
+    let k = and-eq-true-iff (leb (topRate c * suc t) mostRateHundredths) (leb (topRate c * (u - suc t)) mostRateHundredths) .0 h in
+    omega (
+      arith,
+      depth-low c (suc t) (leb-true (topRate c * suc t) mostRateHundredths (k .0)),
+      depth-low c (u - suc t) (leb-true (topRate c * (u - suc t)) mostRateHundredths (k .1)),
+    )
 
-depth-within : (c : Chain) (f : Formula) → pathsPass (inLoad (topRate c)) f ≡ true → depthOf c f ≤ 168
+depth-within : (c : Chain) (f : Formula) → pathsPass (inLoad (topRate c)) f ≡ true → depthOf c f ≤ 336
 unfolding depthOf pathsPass
 depth-within c always h = omega arith
 depth-within c (label w) h = omega arith
@@ -56,7 +65,7 @@ depth-within c (negated a) h = omega arith
 depth-within c (both a b) h = omega arith
 depth-within c (chance r p w) h = path-within c w (and-eq-true-iff (phasesPass (λ t. leb (topRate c * t) mostRateHundredths) (pathOf w)) _ .0 h .0)
 
-pub depth-few : (j : Job) → Passed j → depthOf (jobChain j) (jobFormula j) ≤ 168
+pub depth-few : (j : Job) → Passed j → depthOf (jobChain j) (jobFormula j) ≤ 336
 depth-few j p = depth-within (jobChain j) (jobFormula j) (p .formula .fitting .loads)
 
 -- "Ends lie from 0 to 1,000,000,000."

@@ -32,7 +32,7 @@ row-few s l u d v a e b =
       word-few v,
     ))
 
-module _ (n : ℕ) (lower upper : ℕ → ℕ) (d : ℕ) (v : ℕ → Verdict) (a : n ≤ 512) (e : (s : ℕ) → s < n → InRange (lower s) (upper s)) (b : d ≤ 168) where
+module _ (n : ℕ) (lower upper : ℕ → ℕ) (d : ℕ) (v : ℕ → Verdict) (a : n ≤ 512) (e : (s : ℕ) → s < n → InRange (lower s) (upper s)) (b : d ≤ 336) where
   rows-few : (l : List ℕ) → ((s : ℕ) → In s l → s < n) → length (rowsText l lower upper d v) ≤ 40 * length l
   unfolding rowsText
   rows-few [] i = omega arith

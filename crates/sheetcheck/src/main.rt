@@ -45,9 +45,10 @@ fn explain(number: u64) {
         12 => say(b"the formula has a label name that the first line of labels.txt lacks."),
         13 => say(b"a threshold is over 1,000,000,000 or hours are over 8,760."),
         14 => say(
-            b"the greatest exit rate (to other states) times an until's hours is over 64,000,000.",
+            b"the greatest exit rate (to other states) times the hours of an until, or of one of its two phases, is over 64,000,000.",
         ),
         15 => say(b"a lent buffer is too short."),
+        16 => say(b"the first of an until's two times exceeds the second."),
         _ => {}
     }
 }

@@ -10,17 +10,17 @@ use Rattle.csl.specs.Limits.{billion}
 use Rattle.csl.specs.Chain.{sumTo}
 use Rattle.numbers.specs.Filled.{Filled, table-at}
 use Rattle.numbers.specs.Sum.{sum-cong}
-use Rattle.bounds.specs.Unit.{one, scale, grain, part}
+use Rattle.bounds.specs.Unit.{unit, one, scale, grain, part}
 use Rattle.bounds.specs.StepValues.{pointed}
-use Rattle.bounds.specs.Reading.{bit-most}
 use Rattle.vectors.specs.Places.{at, weightsFrom, totalAt, numberAt, sumAt, weightAt, totalIn}
 use Rattle.vectors.specs.Prepared.{Rates, rates-kept, rates-slow}
-use Rattle.phase.specs.Value.{startOf, heldOf, valueOf}
-use Rattle.phase.specs.Bound.{run-most}
+use Rattle.phase.specs.Value.{heldOf}
+use Rattle.phase.specs.Bound.{run-most, run-cong}
 use Rattle.phase.specs.Load.{LightAsked}
 use Rattle.phase.specs.Ends.{wholeOf, LowerAsked, lowerAt, upperFrom, UpperAsked, upperAt}
-use Rattle.until.specs.Reading.{verdicts, readAs, readPhase, lowPhase, highPhase}
-use Rattle.until.specs.Asked.{ReadAsked, Read, phaseSum, HighAsked, PointAsked, Pointed, BothAsked, Both}
+use Rattle.until.specs.Reading.{verdicts, readPhase, endOf, valueFrom}
+use Rattle.until.specs.Asked.{EndsAsked, Pointed, allAlike, sumFrom, Read, HighAsked, BothAsked, Both}
+use Rattle.until.proofs.AlikeLaw.{ends-same, held-same}
 
 -- what a sum of values of at most 1 gives is at most 1,000,000,000
 end-most : (x total : ℕ) → x * grain ≤ total * one → x * scale / total ≤ billion
@@ -35,6 +35,9 @@ like-on : {n : ℕ} {l x y : List ℕ} → Like n l x → length y ≡ length x 
 like-on c e h = record { same = e ∙ c .same; after = λ k b d. h k b d ∙ c .after k b d }
 
 module _ {mv l first second : List ℕ} {n q last : ℕ} (p : BothAsked mv l first second n q last) where
+  pub may-look : EndsAsked l first second n
+  may-look = p .read .ends
+
   module _ {x : List ℕ} (c : Like n l x) where
     rates-like : Rates mv x n q
     rates-like = rates-kept (p .read .rates) (c .same) (λ k a b. c .after k a (omega arith))
@@ -45,22 +48,10 @@ module _ {mv l first second : List ℕ} {n q last : ℕ} (p : BothAsked mv l fir
     total-like : totalIn x n ≡ totalIn l n
     total-like = c .after (totalAt n) (omega arith) (omega arith)
 
-    read-like : ReadAsked mv x first second n q last
-    read-like =
-        record {
-          rates = rates-like;
-          some = p .read .some;
-          in-first = p .read .in-first;
-          in-second = p .read .in-second;
-          limit = p .read .limit;
-          room = p .read .room;
-          weights = λ k b. rw (weight-like k b) (p .read .weights k b);
-        }
-
     light-like : LightAsked x n last
     light-like =
         record {
-          states = p .read .rates .lines .states;
+          states = p .read .ends .states;
           long = rates-like .long;
           limit = p .read .limit;
           room = p .read .room;
@@ -68,16 +59,25 @@ module _ {mv l first second : List ℕ} {n q last : ℕ} (p : BothAsked mv l fir
         }
 
     -- sums over weights that are the same
-    sum-like : (v : ℕ → ℕ) → sumTo (λ k. part (weightAt x n k) (v k)) (last + 1) ≡ sumTo (λ k. part (weightAt l n k) (v k)) (last + 1)
-    sum-like v =
-        sum-cong (λ k. part (weightAt x n k) (v k)) (λ k. part (weightAt l n k) (v k)) (last + 1) (λ k b. rw (weight-like k (omega arith)) refl)
+    sum-like : (v u : ℕ → ℕ) → ((k : ℕ) → v k ≡ u k)
+        → sumTo (λ k. part (weightAt x n k) (v k)) (last + 1) ≡ sumTo (λ k. part (weightAt l n k) (u k)) (last + 1)
+    sum-like v u e =
+        sum-cong (λ k. part (weightAt x n k) (v k)) (λ k. part (weightAt l n k) (u k)) (last + 1) (λ k b. rw (weight-like k (omega arith), e k) refl)
+
+    -- so too where a reading starts from the same upper ends as another from its own ends, and holds the same states
+    sum-alike : (b : Bool) → ((g : ℕ) → g < n → at x (n + g) ≡ endOf b l n g)
+        → ((g : ℕ) → g < n → heldOf (readPhase true first second) g ≡ heldOf (readPhase b first second) g) → (s : ℕ) → s < n
+        → sumFrom mv first second x n q last true s ≡ sumFrom mv first second l n q last b s
+    sum-alike b e f s h =
+        sum-like (λ k. valueFrom mv first second x n q true k s) (λ k. valueFrom mv first second l n q b k s)
+        (λ k. run-cong mv (length mv) n q (p .read .rates .lines .targets) _ _ _ _ (λ g d. ap (λ (y : ℕ). unit * y) (e g d)) f k s h)
 
   -- what a reading sums up to
-  small : (b : Bool) (s : ℕ) → s < n → phaseSum mv l n q last (readPhase b first second) s * grain ≤ totalIn l n * one
+  small : (b : Bool) (s : ℕ) → s < n → sumFrom mv first second l n q last b s * grain ≤ totalIn l n * one
   small b s h =
-      p .most (λ k. valueOf mv (length mv) q (readPhase b first second) k s)
-      (λ k. run-most mv (length mv) n q (p .read .rates .lines .targets) (startOf (readPhase b first second)) (heldOf (readPhase b first second))
-      (λ t e. omega (arith, bit-most (readAs b (verdicts second t)))) (rates-slow (p .read .rates)) k s h)
+      p .most (λ k. valueFrom mv first second l n q b k s)
+      (λ k. run-most mv (length mv) n q (p .read .rates .lines .targets) (λ g. unit * endOf b l n g) (heldOf (readPhase b first second))
+      (λ g e. omega (arith, p .read .ends .small b g e)) (rates-slow (p .read .rates)) k s h)
 
   module _ {b : List ℕ} (i : Read mv first second n q last false l b) where
     like-read : Like n l b
@@ -86,7 +86,7 @@ module _ {mv l first second : List ℕ} {n q last : ℕ} (p : BothAsked mv l fir
     pub may-lower : LowerAsked b n
     may-lower =
         record {
-          states = p .read .rates .lines .states;
+          states = p .read .ends .states;
           long = rates-like like-read .long;
           some = rw (total-like like-read) (p .some);
           divisor = rw (total-like like-read) (p .divisor);
@@ -97,23 +97,52 @@ module _ {mv l first second : List ℕ} {n q last : ℕ} (p : BothAsked mv l fir
       like-lower : Like n l x
       like-lower = like-on like-read (o .same) (λ k h d. o .after k (omega arith))
 
-      pub may-high : HighAsked mv x first second n q last
-      may-high =
+      lower-is : (s : ℕ) → s < n → at x s ≡ sumFrom mv first second l n q last false s * scale / totalIn l n
+      lower-is s h = table-at o s h ∙ rw (i .sums s h, total-like like-read) refl
+
+      upper-was : (s : ℕ) → s < n → at x (n + s) ≡ at l (n + s)
+      upper-was s h = o .after (n + s) (omega arith) ∙ i .before (n + s) (omega arith)
+
+      lowered-small : (c : Bool) (s : ℕ) → s < n → endOf c x n s ≤ billion
+      lowered-small true s h = rw (upper-was s h) (p .read .ends .small true s h)
+      lowered-small false s h = rw (lower-is s h) (end-most _ (totalIn l n) (small false s h))
+
+      ends-lowered : EndsAsked x first second n
+      ends-lowered =
           record {
-            asked = read-like like-lower;
-            sums = λ s h. o .after (4 * n + s) (omega arith) ∙ i .sums s h
-                ∙ sym (sum-like like-lower (λ k. valueOf mv (length mv) q (lowPhase first second) k s));
+            states = p .read .ends .states;
+            room = omega (arith, like-lower .same, p .read .ends .room);
+            in-first = p .read .ends .in-first;
+            in-second = p .read .ends .in-second;
+            small = lowered-small;
+          }
+
+      -- where both readings are one, the sums of one are those of the other
+      pub may-high : {a : Bool} → a ≡ allAlike l first second n n → HighAsked mv x first second n q last a
+      may-high e =
+          record {
+            asked = record {
+              rates = rates-like like-lower;
+              some = p .read .some;
+              ends = ends-lowered;
+              limit = p .read .limit;
+              room = p .read .room;
+              weights = light-like like-lower .weights;
+            };
+            sums = λ t s h. o .after (4 * n + s) (omega arith) ∙ i .sums s h
+                ∙ sym (sum-alike like-lower false (λ g d. upper-was g d ∙ sym (ends-same l first second n (sym e ∙ t) g d))
+                (λ g d. sym (held-same l first second n (sym e ∙ t) g d)) s h);
           }
 
       module _ {y : List ℕ} (j : Read mv first second n q last true x y) where
         like-high : Like n l y
         like-high = like-on like-lower (j .same) (j .after)
 
-        high-sum : (s : ℕ) → s < n → sumAt y n s ≡ phaseSum mv l n q last (highPhase first second) s
-        high-sum s h = j .sums s h ∙ sum-like like-lower (λ k. valueOf mv (length mv) q (highPhase first second) k s)
+        high-sum : (s : ℕ) → s < n → sumAt y n s ≡ sumFrom mv first second l n q last true s
+        high-sum s h = j .sums s h ∙ sum-alike like-lower true upper-was (λ g d. refl) s h
 
         whole-like : wholeOf y n last 0 ≡ wholeOf l n last 0
-        whole-like = ap (λ (t : ℕ). t - (last + 1)) (sum-like like-high (λ k. one - (0 + k)))
+        whole-like = ap (λ (t : ℕ). t - (last + 1)) (sum-like like-high (λ k. one - (0 + k)) (λ k. one - (0 + k)) (λ k. refl))
 
         whole-small : wholeOf l n last 0 * grain ≤ totalIn l n * one
         whole-small = omega (arith, p .most (λ k. one - (0 + k)) (λ k. omega arith))
@@ -133,32 +162,34 @@ module _ {mv l first second : List ℕ} {n q last : ℕ} (p : BothAsked mv l fir
           like-upper : Like n l z
           like-upper = like-on like-high (u .same) (λ k h d. u .after k (omega arith))
 
-          lower-is : (s : ℕ) → s < n → at z s ≡ phaseSum mv l n q last (lowPhase first second) s * scale / totalIn l n
-          lower-is s h =
-              u .before s (omega arith) ∙ j .before s (omega arith) ∙ table-at o s h ∙ rw (i .sums s h, total-like like-read) refl
+          lower-was : (s : ℕ) → s < n → at z s ≡ at x s
+          lower-was s h = u .before s (omega arith) ∙ j .before s (omega arith)
 
           upper-is : (s : ℕ) → s < n
-              → at z (n + s) ≡ upperFrom (phaseSum mv l n q last (highPhase first second) s) (totalIn l n) (wholeOf l n last 0)
+              → at z (n + s) ≡ upperFrom (sumFrom mv first second l n q last true s) (totalIn l n) (wholeOf l n last 0)
           upper-is s h = u .filled s h ∙ rw (high-sum s h, total-like like-high, whole-like) refl
 
-          pub may-point : PointAsked z first second n
+          pointed-small : (c : Bool) (s : ℕ) → s < n → endOf c z n s ≤ billion
+          pointed-small true s h = rw (upper-is s h) (omega arith)
+          pointed-small false s h = rw (lower-was s h) (lowered-small false s h)
+
+          pub may-point : EndsAsked z first second n
           may-point =
               record {
-                states = p .read .rates .lines .states;
-                room = omega (arith, rates-like like-upper .long);
-                in-first = p .read .in-first;
-                in-second = p .read .in-second;
-                lowers = λ s h. rw (lower-is s h) (end-most _ (totalIn l n) (small false s h));
-                uppers = λ s h. rw (upper-is s h) (omega arith);
+                states = p .read .ends .states;
+                room = omega (arith, like-upper .same, p .read .ends .room);
+                in-first = p .read .ends .in-first;
+                in-second = p .read .ends .in-second;
+                small = pointed-small;
               }
 
           pub is-both : {w : List ℕ} → Pointed first second n z w → Both mv first second n q last l w
           is-both f =
               record {
                 same = f .same ∙ like-upper .same;
-                lowers = λ s h. f .lowers s h ∙ ap (pointed (verdicts first s) (verdicts second s)) (lower-is s h);
+                lowers = λ s h. f .lowers s h ∙ ap (pointed (verdicts first s) (verdicts second s)) (lower-was s h ∙ lower-is s h);
                 uppers = λ s h. f .uppers s h ∙ ap (pointed (verdicts first s) (verdicts second s)) (upper-is s h);
                 after = λ k h d. f .after k (omega arith) ∙ like-upper .after k h d;
               }
 
-pub ruleset both-laws = (may-lower, may-high, may-upper, may-point, is-both)
+pub ruleset both-laws = (may-look, may-lower, may-high, may-upper, may-point, is-both)

@@ -1,10 +1,11 @@
--- What a state begins with, by where the operands hold. Assumes nothing.
-use mathlib.Core.Path.{_≡_, refl}
-use mathlib.Core.Bool.{Bool, true, false, not, _||_}
-use Prim.Native.Nat.{ℕ, _+_, _*_, _-_}
-use Rattle.csl.specs.Phase.{bit}
-use Rattle.bounds.specs.Unit.{one}
-use Rattle.phase.specs.Value.{stayOf}
+-- What a state begins with: the end that its reading starts from, and whether its value is held. Assumes nothing.
+use mathlib.Core.Path.{_≡_, refl, ap, _∙_}
+use mathlib.Core.Bool.{Bool, true, false, cond, not, _||_}
+use mathlib.Core.List.{List}
+use Prim.Native.Nat.{ℕ, _+_}
+use native.Mathlib.Nat.{zero-add}
+use Rattle.vectors.specs.Places.{at}
+use Rattle.until.specs.Reading.{endOf}
 
 -- whether a value is held, by what holds
 pub held-second : (x y : Bool) → y ≡ true → true ≡ (y || not (x || y))
@@ -14,17 +15,16 @@ pub held-neither : (x y : Bool) → y ≡ false → not x ≡ (y || not (x || y)
 held-neither true y h = rw h refl
 held-neither false y h = rw h refl
 
--- the first value, and what stays put, by a test
-pub value-one : (b : Bool) → b ≡ true → one ≡ one * bit b
-value-one b h = rw h refl
+-- one of two numbers, by a test
+pub by-yes : (b : Bool) (x y : ℕ) → b ≡ true → x ≡ cond b x y
+by-yes b x y h = rw h refl
 
-pub value-nil : (b : Bool) → b ≡ false → 0 ≡ one * bit b
-value-nil b h = rw h refl
+pub by-no : (b : Bool) (x y : ℕ) → b ≡ false → y ≡ cond b x y
+by-no b x y h = rw h refl
 
-pub stays-held : (b : Bool) (q e : ℕ) → b ≡ true → q + 1 ≡ stayOf q e b
-stays-held b q e h = rw h refl
+pub ruleset held-laws = (held-second, held-neither, by-yes, by-no)
 
-pub stays-moving : (b : Bool) (q e : ℕ) → b ≡ false → q - e ≡ stayOf q e b
-stays-moving b q e h = rw h refl
-
-pub ruleset held-laws = (held-second, held-neither, value-one, value-nil, stays-held, stays-moving)
+-- the end that a reading starts from, by where its column begins
+pub end-at : (b : Bool) (l : List ℕ) (n from s : ℕ) → from ≡ cond b n 0 → at l (from + s) ≡ endOf b l n s
+end-at true l n from s e = ap (λ (x : ℕ). at l (x + s)) e
+end-at false l n from s e = ap (λ (x : ℕ). at l (x + s)) e ∙ ap (at l) (zero-add s)

@@ -2,10 +2,14 @@
 pub mod HeldLaw
 pub mod LayLaw
 pub mod RunLaw
-pub mod DecidedLaw
 pub mod ReadLaw
+pub mod AlikeLaw
 pub mod PointLaw
 pub mod StillLaw
+pub mod RestrictLaw
 pub mod BothLaw
+pub mod FromLaw
 pub mod SummedLaw
+pub mod PhaseLaw
 pub mod UntilLaw
+pub mod EarlierLaw

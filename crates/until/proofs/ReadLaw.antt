@@ -1,6 +1,6 @@
--- One reading's sums; and that both readings are one where nothing is undecided. Assumes nothing.
+-- One reading's sums. Assumes nothing.
 use mathlib.Core.Path.{_≡_, refl, ap, sym, _∙_}
-use mathlib.Core.Bool.{Bool, true, false, not, _||_}
+use mathlib.Core.Bool.{Bool, true, false}
 use mathlib.Core.List.{List}
 use Prim.Native.Nat.{ℕ, _+_, _*_, _-_, _≤_, _<_}
 use native.Mathlib.Omega.{arith}
@@ -8,21 +8,17 @@ use native.Mathlib.Nat.{add-zero}
 use lib.Dec.{ltb}
 use lib.ListN.{length}
 use borrow.Author.Tests.{lt-ltb, le-ltb}
-use Rattle.csl.specs.Phase.{bit}
-use Rattle.csl.specs.Verdicts.{asNo, asYes}
 use Rattle.numbers.specs.Sum.{sum-cong}
-use Rattle.bounds.specs.Unit.{one, part}
-use Rattle.bounds.specs.Reading.{bit-most}
+use Rattle.bounds.specs.Unit.{unit, one, part}
 use Rattle.rate_matrix.specs.Words.{exitOf}
 use Rattle.vectors.specs.Places.{at, weightsFrom, valueAt, nextAt, stayAt, heldAt, exitAt, weightAt}
 use Rattle.vectors.specs.Prepared.{rates-kept, rates-slow, rates-small}
-use Rattle.phase.specs.Value.{heldOf, stayOf, startOf, valueOf}
+use Rattle.phase.specs.Value.{heldOf, stayOf}
 use Rattle.phase.specs.Bound.{run-cong}
 use Rattle.phase.specs.Steps.{BeginAsked, Begun}
-use Rattle.until.specs.Reading.{verdicts, readAs, readPhase, lowPhase, highPhase}
+use Rattle.until.specs.Reading.{readPhase, endOf, valueFrom}
 use Rattle.until.specs.Run.{RunAsked, runAt, Ran}
-use Rattle.until.specs.Asked.{LayAsked, Laid, DecidedAsked, bothDecided, ReadAsked, Read, HighAsked}
-use Rattle.until.proofs.DecidedLaw.{first-same, second-same}
+use Rattle.until.specs.Asked.{LayAsked, Laid, ReadAsked, Read, HighAsked}
 
 -- what stays put says whether a value is held
 stay-held : (q e : ℕ) (b : Bool) → ltb q (stayOf q e b) ≡ b
@@ -37,17 +33,14 @@ module _ {mv l first second : List ℕ} {n q last : ℕ} (p : ReadAsked mv l fir
   pub may-lay : LayAsked l first second n q
   may-lay =
       record {
-        states = p .rates .lines .states;
+        ends = p .ends;
         long = p .rates .long;
-        in-first = p .in-first;
-        in-second = p .in-second;
         exits = λ s h. record { slow = rw (p .rates .exits s h) (rates-slow (p .rates) s h); small = rates-small (p .rates) };
       }
 
   module _ {b : Bool} {x : List ℕ} (i : Laid first second n q b l x) where
-    -- values of 0 and 1
     start-most : (s : ℕ) → s < n → nextAt x n s ≤ one
-    start-most s h = rw (i .values s h) (omega (arith, bit-most (readAs b (verdicts second s))))
+    start-most s h = rw (i .values s h) (omega (arith, p .ends .small b s h))
 
     weight-laid : (k : ℕ) → weightAt x n k ≡ weightAt l n k
     weight-laid k = i .after (weightsFrom n + k) (omega arith)
@@ -55,7 +48,7 @@ module _ {mv l first second : List ℕ} {n q last : ℕ} (p : ReadAsked mv l fir
     pub may-begin : BeginAsked x n
     may-begin =
         record {
-          states = p .rates .lines .states;
+          states = p .ends .states;
           long = omega (arith, i .same, p .rates .long);
           weight = rw (sym (first-weight x n), weight-laid 0) (p .weights 0 (omega arith));
           values = start-most;
@@ -96,9 +89,9 @@ module _ {mv l first second : List ℕ} {n q last : ℕ} (p : ReadAsked mv l fir
           }
 
       -- the values of the run are those of the phase
-      run-is : (k s : ℕ) → s < n → runAt mv y n q k s ≡ valueOf mv (length mv) q (readPhase b first second) k s
+      run-is : (k s : ℕ) → s < n → runAt mv y n q k s ≡ valueFrom mv first second l n q b k s
       run-is =
-          run-cong mv (length mv) n q (p .rates .lines .targets) (valueAt y n) (startOf (readPhase b first second)) (heldAt y n q)
+          run-cong mv (length mv) n q (p .rates .lines .targets) (valueAt y n) (λ s. unit * endOf b l n s) (heldAt y n q)
           (heldOf (readPhase b first second)) (λ s h. g .values s h ∙ i .values s h) held-is
 
       pub is-read : {z : List ℕ} → Ran mv n q last y z → Read mv first second n q last b l z
@@ -107,47 +100,20 @@ module _ {mv l first second : List ℕ} {n q last : ℕ} (p : ReadAsked mv l fir
             same = r .same ∙ g .same ∙ i .same;
             sums = λ s h. r .sums s h
                 ∙ sum-cong (λ k. part (weightAt y n k) (runAt mv y n q k s))
-                (λ k. part (weightAt l n k) (valueOf mv (length mv) q (readPhase b first second) k s)) (last + 1)
+                (λ k. part (weightAt l n k) (valueFrom mv first second l n q b k s)) (last + 1)
                 (λ k c. rw (weight-is k (omega arith), run-is k s h) refl);
             before = λ k h. r .before k h ∙ g .before k h ∙ i .before k (omega arith);
             after = λ k h c. r .after k (omega arith) c ∙ kept k h c;
           }
 
-      pub read-length : {z : List ℕ} → Ran mv n q last y z → length z ≡ length l
-      read-length r = r .same ∙ g .same ∙ i .same
+pub ruleset read-laws = (may-lay, may-begin, may-run, is-read)
 
-pub ruleset read-laws = (may-lay, may-begin, may-run, is-read, read-length)
-
-module _ {mv l first second : List ℕ} {n q last : ℕ} (p : HighAsked mv l first second n q last) where
-  pub may-look : DecidedAsked first second n
-  may-look = record { in-first = p .asked .in-first; in-second = p .asked .in-second }
+-- sums that stand there are read
+module _ {mv l first second : List ℕ} {n q last : ℕ} {there : Bool} (p : HighAsked mv l first second n q last there) where
+  pub is-there : there ≡ true → Read mv first second n q last true l l
+  is-there t = record { same = refl; sums = p .sums t; before = λ k h. refl; after = λ k h c. refl }
 
   pub may-read : ReadAsked mv l first second n q last
   may-read = p .asked
 
-  -- where nothing is undecided the two phases are one
-  module _ {x : Bool} (i : x ≡ bothDecided first second n) (t : x ≡ true) where
-    decided : bothDecided first second n ≡ true
-    decided = sym i ∙ t
-
-    values-same : (k s : ℕ) → s < n → valueOf mv (length mv) q (lowPhase first second) k s ≡ valueOf mv (length mv) q (highPhase first second) k s
-    values-same =
-        run-cong mv (length mv) n q (p .asked .rates .lines .targets) (startOf (lowPhase first second)) (startOf (highPhase first second))
-        (heldOf (lowPhase first second)) (heldOf (highPhase first second))
-        (λ s h. ap (λ (x : Bool). one * bit x) (second-same first second n decided s h))
-        (λ s h. ap (λ (x : Bool). x || not (asNo (verdicts first s) || x)) (second-same first second n decided s h)
-        ∙ ap (λ (x : Bool). asYes (verdicts second s) || not (x || asYes (verdicts second s))) (first-same first second n decided s h))
-
-    pub is-high : Read mv first second n q last true l l
-    is-high =
-        record {
-          same = refl;
-          sums = λ s h. p .sums s h
-              ∙ sum-cong (λ k. part (weightAt l n k) (valueOf mv (length mv) q (lowPhase first second) k s))
-              (λ k. part (weightAt l n k) (valueOf mv (length mv) q (highPhase first second) k s)) (last + 1)
-              (λ k c. ap (λ (x : ℕ). part (weightAt l n k) x) (values-same k s h));
-          before = λ k h. refl;
-          after = λ k h c. refl;
-        }
-
-pub ruleset high-laws = (may-look, may-read, is-high)
+pub ruleset high-laws = (is-there, may-read)

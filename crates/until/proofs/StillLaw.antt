@@ -1,4 +1,4 @@
--- The ends where the load is 0. Assumes nothing.
+-- The ends that verdict bytes stand for. Assumes nothing.
 use mathlib.Core.Path.{_≡_, refl}
 use mathlib.Core.List.{List}
 use Prim.Native.Nat.{ℕ}

@@ -5,10 +5,10 @@ use mathlib.Core.List.{List}
 use Prim.Native.Nat.{ℕ, _+_, _*_, _/_, _^_, _≤_, _<_}
 use native.Mathlib.Omega.{arith}
 use lib.Dec.{ltb}
-use lib.ListN.{length}
 use borrow.Author.Tests.{ltb-true, ltb-false}
 use Rattle.csl.specs.Limits.{rateHundredths}
 use Rattle.numbers.specs.Hint.{mul-bound}
+use Rattle.bounds.specs.Unit.{unit}
 use Rattle.bounds.specs.Weight.{peak, low, Middle, low-most}
 use Rattle.bounds.specs.Last.{lastFrom, last-same}
 use Rattle.bounds.specs.Ends.{total, negligible, lastStep, last-step-within, lowerEnd, gathered-most, total-most, total-peak}
@@ -16,11 +16,12 @@ use Rattle.bounds.specs.Upper.{leftEnd}
 use Rattle.weights.specs.Asked.{mostSteps}
 use Rattle.vectors.specs.Places.{at, weightsFrom, weightAt, totalIn}
 use Rattle.vectors.specs.Prepared.{rates-kept, WorkAsked, Cleared}
-use Rattle.phase.specs.Value.{valueOf}
+use Rattle.phase.specs.Value.{heldOf}
 use Rattle.phase.specs.Load.{Weighed, LightAsked}
 use Rattle.phase.specs.Sums.{sum-gathered, whole-gatherable}
-use Rattle.until.specs.Reading.{lowPhase, highPhase}
-use Rattle.until.specs.Asked.{BothAsked, Both, SummedAsked, Summed}
+use Rattle.until.specs.Reading.{readPhase, endOf, valueFrom}
+use Rattle.until.specs.Asked.{BothAsked, Both, SummedAsked, summedEnd, Summed}
+use Rattle.until.proofs.FromLaw.{end-from}
 
 module _ {mv l first second : List ℕ} {n q a depth : ℕ} (p : SummedAsked mv l first second n q a depth) where
   middle : Middle a rateHundredths (a / rateHundredths)
@@ -41,6 +42,10 @@ module _ {mv l first second : List ℕ} {n q a depth : ℕ} (p : SummedAsked mv 
   module _ {w : List ℕ} (u : Weighed n a depth l w) where
     light : (k : ℕ) → k ≤ depth → weightAt w n k ≤ peak
     light k h = rw (u .weights k h) (low-most middle k)
+
+    end-was : (b : Bool) (s : ℕ) → s < n → endOf b w n s ≡ endOf b l n s
+    end-was true s h = u .before (n + s) (omega arith)
+    end-was false s h = u .before s (omega arith)
 
     pub may-look : LightAsked w n depth
     may-look =
@@ -73,8 +78,13 @@ module _ {mv l first second : List ℕ} {n q a depth : ℕ} (p : SummedAsked mv 
             read = record {
               rates = rates-kept (p .prepared .rates) (u .same) (λ k c d. u .before k (omega arith));
               some = p .some;
-              in-first = p .in-first;
-              in-second = p .in-second;
+              ends = record {
+                states = p .ends .states;
+                room = omega (arith, u .same, p .ends .room);
+                in-first = p .ends .in-first;
+                in-second = p .ends .in-second;
+                small = λ b s h. rw (end-was b s h) (p .ends .small b s h);
+              };
               limit = omega (arith, limit, within);
               room = omega (arith, p .weigh .load .room, p .weigh .deep, within);
               weights = λ k h. light k (omega (arith, within));
@@ -111,24 +121,28 @@ module _ {mv l first second : List ℕ} {n q a depth : ℕ} (p : SummedAsked mv 
               columns true e = c .clear .columns k h (ltb-true k (6 * n) e) ∙ sym (p .prepared .clear .columns k h (ltb-true k (6 * n) e))
               columns false e = rates (ltb k (weightsFrom n)) refl (ltb-false k (6 * n) e)
 
+          end-same : (b : Bool) (s : ℕ) → s < n → summedEnd mv first second w n q a depth b s ≡ summedEnd mv first second l n q a depth b s
+          end-same b =
+              end-from mv first second w n q a depth (p .prepared .rates .lines .targets) b (λ g. unit * endOf b l n g)
+              (heldOf (readPhase b first second)) (λ g h. ap (λ (x : ℕ). unit * x) (end-was b g h)) (λ g h. refl)
+
           pub is-summed : Summed mv first second n q a depth l y
           unfolding lowerEnd leftEnd
           is-summed =
               record {
                 same = c .same ∙ f .same ∙ u .same;
                 lowers = λ s h. c .ends s (omega arith) ∙ f .lowers s h
-                    ∙ rw (sum-gathered w n a last through (λ k. valueOf mv (length mv) q (lowPhase first second) k s), u .total, made) refl;
+                    ∙ rw (sum-gathered w n a last through (λ k. valueFrom mv first second w n q false k s), u .total, made)
+                    (end-same false s h);
                 uppers = λ s h. c .ends (n + s) (omega arith) ∙ f .uppers s h
                     ∙ rw (
-                      sum-gathered w n a last through (λ k. valueOf mv (length mv) q (highPhase first second) k s),
+                      sum-gathered w n a last through (λ k. valueFrom mv first second w n q true k s),
                       whole-gatherable w n a last through 0,
                       u .total,
                       made,
-                    ) refl;
+                    )
+                    (end-same true s h);
                 after = kept;
               }
 
-          pub summed-length : length y ≡ length l
-          summed-length = c .same ∙ f .same ∙ u .same
-
-pub ruleset summed-laws = (may-look, may-both, may-clear, is-summed, summed-length)
+pub ruleset summed-laws = (may-look, may-both, may-clear, is-summed)

@@ -1,76 +1,79 @@
--- The load 0, and a load above it. Assumes nothing.
+-- Until is the phase that starts from the ends that its second operand's verdicts stand for. Assumes nothing.
 use mathlib.Core.Path.{_≡_, refl, _∙_}
+use mathlib.Core.Bool.{Bool, true, false, cond}
 use mathlib.Core.List.{List}
-use Prim.Native.Nat.{ℕ, zero, suc, _*_, _<_}
+use Prim.Native.Nat.{ℕ, _*_, _<_}
 use native.Mathlib.Omega.{arith}
-use borrow.Author.Tests.{eq-eqb, ne-eqb}
+use lib.Dec.{eqb}
+use lib.ListN.{length}
 use Rattle.csl.specs.Limits.{billion}
 use Rattle.csl.specs.Phase.{bit}
 use Rattle.csl.specs.Report as report
 use Rattle.csl.specs.Verdicts.{Verdict, No, Yes, Undecided, asNo, asYes}
+use Rattle.bounds.specs.Reading.{bit-most}
 use Rattle.bounds.specs.StepValues.{pointed}
 use Rattle.phase.specs.Load.{loadDepth}
-use Rattle.until.specs.Reading.{verdicts}
-use Rattle.until.specs.Asked.{StillAsked, Still, SummedAsked, Summed, UntilAsked, Until}
+use Rattle.phase.specs.Value.{heldOf, startOf, valueOf}
+use Rattle.until.specs.Reading.{verdicts, readAs, readPhase, endOf}
+use Rattle.until.specs.Asked.{RowAsked, Still, endBy, PhaseAsked, phaseEnd, Phased, UntilAsked, Until}
+use Rattle.until.proofs.FromLaw.{end-from, by-load}
+use Rattle.until.proofs.PhaseLaw.{may-write, may-start}
 
--- the ends where the load is 0
-still-lower : (v w : Verdict) → report.lowerOf w ≡ pointed v w (billion * bit (asNo w))
-still-lower v Yes = refl
-still-lower No No = refl
-still-lower Yes No = refl
-still-lower Undecided No = refl
-still-lower v Undecided = refl
+-- the ends that a verdict stands for
+lower-bit : (w : Verdict) → report.lowerOf w ≡ billion * bit (asNo w)
+lower-bit No = refl
+lower-bit Yes = refl
+lower-bit Undecided = refl
 
-still-upper : (v w : Verdict) → report.upperOf w ≡ pointed v w (billion * bit (asYes w))
-still-upper v Yes = refl
-still-upper No No = refl
-still-upper Yes No = refl
-still-upper Undecided No = refl
-still-upper v Undecided = refl
+upper-bit : (w : Verdict) → report.upperOf w ≡ billion * bit (asYes w)
+upper-bit No = refl
+upper-bit Yes = refl
+upper-bit Undecided = refl
+
+-- they are as the rules would have them
+bit-left : (b : Bool) (v w : Verdict) → billion * bit (readAs b w) ≡ pointed v w (billion * bit (readAs b w))
+bit-left true v Yes = refl
+bit-left false v Yes = refl
+bit-left true No No = refl
+bit-left false No No = refl
+bit-left b Yes No = refl
+bit-left b Undecided No = refl
+bit-left b v Undecided = refl
 
 module _ {mv l first second : List ℕ} {n q t : ℕ} (p : UntilAsked mv l first second n q t) where
-  pub may-still : StillAsked l second n
-  may-still = record { states = p .prepared .rates .lines .states; room = omega (arith, p .prepared .rates .long); in-second = p .in-second }
+  pub may-still : RowAsked l second n
+  may-still = may-write (p .prepared) (p .in-second)
 
-  pub is-still : {x : List ℕ} (r : ℕ) → r ≡ loadDepth (q * t) → q * t ≡ 0 → Still second n l x → Until mv first second n q t l x r
-  is-still r e z s =
-      record {
-        deep = e;
-        ends = record {
-          same = s .same;
-          lowers = λ g h. rw (eq-eqb (q * t) 0 z) (s .lowers g h ∙ still-lower (verdicts first g) (verdicts second g));
-          uppers = λ g h. rw (eq-eqb (q * t) 0 z) (s .uppers g h ∙ still-upper (verdicts first g) (verdicts second g));
-          after = s .after;
-        };
-      }
+  module _ {x : List ℕ} (s : Still second n l x) where
+    end-is : (b : Bool) (g : ℕ) → g < n → endOf b x n g ≡ billion * bit (readAs b (verdicts second g))
+    end-is true g h = s .uppers g h ∙ upper-bit (verdicts second g)
+    end-is false g h = s .lowers g h ∙ lower-bit (verdicts second g)
 
-  some : (q * t ≡ 0 → ⊥) → 0 < q
-  some z = above q refl
-    where
-      above : (x : ℕ) → q ≡ x → 0 < x
-      above zero e = absurd (z (rw e (omega arith)))
-      above (suc x) e = omega arith
+    pub may-phase : PhaseAsked mv x first second n q t
+    may-phase =
+        may-start (p .prepared) (p .load) (p .in-first) (p .in-second) s (λ b g h. omega (arith, end-is b g h, bit-most (readAs b (verdicts second g))))
 
-  pub may-sum : (r : ℕ) → r ≡ loadDepth (q * t) → (q * t ≡ 0 → ⊥) → SummedAsked mv l first second n q (q * t) r
-  may-sum r e z =
-      record {
-        prepared = p .prepared;
-        some = some z;
-        weigh = record { states = p .prepared .rates .lines .states; long = p .prepared .rates .long; some = omega arith; load = p .load; deep = e };
-        in-first = p .in-first;
-        in-second = p .in-second;
-      }
+    -- one end of the phase is until's
+    until-end : (b : Bool) (g : ℕ) → g < n
+        → phaseEnd mv first second x n q (q * t) b g
+        ≡ pointed (verdicts first g) (verdicts second g)
+        (cond (eqb (q * t) 0) (billion * bit (readAs b (verdicts second g)))
+        (endBy b (q * t) (loadDepth (q * t)) (λ k. valueOf mv (length mv) q (readPhase b first second) k g)))
+    until-end b g h =
+        by-load (eqb (q * t) 0) (pointed (verdicts first g) (verdicts second g)) (end-is b g h ∙ bit-left b (verdicts first g) (verdicts second g))
+        (end-from mv first second x n q (q * t) (loadDepth (q * t)) (p .prepared .rates .lines .targets) b (startOf (readPhase b first second))
+        (heldOf (readPhase b first second)) (λ i k. omega (arith, end-is b i k)) (λ i k. refl) g h)
 
-  pub is-summed : {x : List ℕ} (r : ℕ) → r ≡ loadDepth (q * t) → (q * t ≡ 0 → ⊥) → Summed mv first second n q (q * t) r l x → Until mv first second n q t l x r
-  is-summed r e z s =
-      record {
-        deep = e;
-        ends = record {
-          same = s .same;
-          lowers = λ g h. rw (ne-eqb (q * t) 0 z) (s .lowers g h ∙ rw e refl);
-          uppers = λ g h. rw (ne-eqb (q * t) 0 z) (s .uppers g h ∙ rw e refl);
-          after = s .after;
-        };
-      }
+    pub is-until : {y : List ℕ} {r : ℕ} → Phased mv first second n q t x y r → Until mv first second n q t l y r
+    is-until u =
+        record {
+          deep = u .deep;
+          ends = record {
+            same = u .ends .same ∙ s .same;
+            lowers = λ g h. u .ends .lowers g h ∙ until-end false g h;
+            uppers = λ g h. u .ends .uppers g h ∙ until-end true g h;
+            after = λ k h. u .ends .after k h ∙ s .after k h;
+          };
+        }
 
-pub ruleset until-laws = (may-still, is-still, may-sum, is-summed)
+pub ruleset until-laws = (may-still, may-phase, is-until)

@@ -1,69 +1,92 @@
 -- What the functions of until ask and promise. Assumes nothing.
 use mathlib.Core.Path.{_≡_}
-use mathlib.Core.Bool.{Bool, true, _&&_}
+use mathlib.Core.Bool.{Bool, true, false, cond, _&&_}
 use mathlib.Core.List.{List}
 use Prim.Native.Nat.{ℕ, zero, suc, _+_, _*_, _/_, _^_, _≤_, _<_}
 use lib.ListN.{length}
-use lib.Dec.{leb}
+use lib.Dec.{leb, eqb}
 use Rattle.csl.specs.Limits.{billion, mostStates, mostRate, rateHundredths}
 use Rattle.csl.specs.Chain.{sumTo}
-use Rattle.csl.specs.Phase.{Phase}
 use Rattle.csl.specs.Report as report
 use Rattle.bounds.specs.Weight.{peak}
-use Rattle.bounds.specs.Unit.{one, scale, grain, part}
+use Rattle.bounds.specs.Unit.{unit, one, scale, grain, part}
 use Rattle.bounds.specs.Ends.{lowerEnd}
 use Rattle.bounds.specs.Upper.{upperEnd}
-use Rattle.bounds.specs.StepValues.{pointed, untilLowerOf, untilUpperOf}
+use Rattle.bounds.specs.StepValues.{pointed, untilLowerOf, untilUpperOf, startedPhase, earlierLowerOf, earlierUpperOf}
 use Rattle.weights.specs.Asked.{mostSteps}
 use Rattle.vectors.specs.Places.{at, valuesFrom, nextFrom, sumsFrom, staysFrom, exitsFrom, weightsFrom, totalAt, numberAt, vectorLength, nextAt, sumAt, stayAt, exitAt, weightAt, totalIn, EndsStored}
 use Rattle.vectors.specs.Prepared.{Rates, Prepared}
-use Rattle.phase.specs.Value.{startOf, heldOf, stayOf, valueOf}
+use Rattle.phase.specs.Value.{heldOf, stayOf, runOf, valueOf}
 use Rattle.phase.specs.Load.{loadDepth, Loaded, WeighAsked}
 use Rattle.phase.specs.Ends.{wholeOf, upperFrom}
-use Rattle.until.specs.Reading.{verdicts, readPhase, lowPhase, highPhase}
+use Rattle.until.specs.Reading.{verdicts, readAs, readPhase, lowPhase, highPhase, endOf, valueFrom}
 
 -- an exit rate and q
 pub record StaysAsked (q exit : ℕ) : Type 0 where
   pub slow : exit ≤ q
   pub small : q ≤ mostRate
 
--- the start vector of an until and what stays put, to be written
-pub record LayAsked (l first second : List ℕ) (n q : ℕ) : Type 0 where
+-- the ends of n states are to be written by a row of verdict bytes
+pub record RowAsked (l row : List ℕ) (n : ℕ) : Type 0 where
   pub states : n ≤ mostStates
-  pub long : vectorLength n ≤ length l
+  pub room : valuesFrom n ≤ length l
+  pub in-row : n ≤ length row
+
+-- those that the verdicts of the row stand for
+abbrev pub Still : (second : List ℕ) (n : ℕ) → (old new : List ℕ) → Type 0
+Still second n old new = EndsStored (λ s. report.lowerOf (verdicts second s)) (λ s. report.upperOf (verdicts second s)) n old new
+
+-- those that stood there where the row's verdict holds, and 0 elsewhere
+abbrev pub Restricted : (first : List ℕ) (n : ℕ) → (old new : List ℕ) → Type 0
+Restricted first n old new =
+    EndsStored (λ s. cond (readAs false (verdicts first s)) (at old s) 0) (λ s. cond (readAs true (verdicts first s)) (at old (n + s)) 0) n old new
+
+-- the two ends of each of n states stand in their places, none above 1, beside two rows of verdict bytes
+pub record EndsAsked (l first second : List ℕ) (n : ℕ) : Type 0 where
+  pub states : n ≤ mostStates
+  pub room : valuesFrom n ≤ length l
   pub in-first : n ≤ length first
   pub in-second : n ≤ length second
+  pub small : (b : Bool) (s : ℕ) → s < n → endOf b l n s ≤ billion
+
+-- the intervals that the two operands' verdicts leave of them
+abbrev pub Pointed : (first second : List ℕ) (n : ℕ) → (old new : List ℕ) → Type 0
+Pointed first second n old new =
+    EndsStored (λ s. pointed (verdicts first s) (verdicts second s) (at old s)) (λ s. pointed (verdicts first s) (verdicts second s) (at old (n + s))) n
+    old new
+
+-- no byte of either row is undecided at state s, and its two ends are the same; at each of the first s states
+abbrev pub alikeAt : (l first second : List ℕ) (n : ℕ) → ℕ → Bool
+alikeAt l first second n s = leb (at first s) 1 && leb (at second s) 1 && eqb (at l s) (at l (n + s))
+
+unfoldable pub allAlike : (l first second : List ℕ) (n : ℕ) → ℕ → Bool
+allAlike l first second n zero = true
+allAlike l first second n (suc s) = allAlike l first second n s && alikeAt l first second n s
+
+-- the start vector of a phase, from the ends, and what stays put, to be written
+pub record LayAsked (l first second : List ℕ) (n q : ℕ) : Type 0 where
+  pub ends : EndsAsked l first second n
+  pub long : vectorLength n ≤ length l
   pub exits : (s : ℕ) → s < n → StaysAsked q (exitAt l n s)
 
 -- they stand in their columns, and all other words are as they were
 pub record Laid (first second : List ℕ) (n q : ℕ) (b : Bool) (l₀ l : List ℕ) : Type 0 where
   pub same : length l ≡ length l₀
-  pub values : (s : ℕ) → s < n → nextAt l n s ≡ startOf (readPhase b first second) s
+  pub values : (s : ℕ) → s < n → nextAt l n s ≡ unit * endOf b l₀ n s
   pub stays : (s : ℕ) → s < n → stayAt l n s ≡ stayOf q (exitAt l₀ n s) (heldOf (readPhase b first second) s)
   pub before : (k : ℕ) → k < nextFrom n → at l k ≡ at l₀ k
   pub between : (k : ℕ) → sumsFrom n ≤ k → k < staysFrom n → at l k ≡ at l₀ k
   pub after : (k : ℕ) → exitsFrom n ≤ k → at l k ≡ at l₀ k
 
--- two rows of verdict bytes to be looked through
-pub record DecidedAsked (first second : List ℕ) (n : ℕ) : Type 0 where
-  pub in-first : n ≤ length first
-  pub in-second : n ≤ length second
+-- the sum over steps 0 to last of weight times value of a reading's phase; the weights, and the ends that it starts from, are those of the list
+abbrev pub sumFrom : (mv first second l : List ℕ) (n q last : ℕ) → Bool → ℕ → ℕ
+sumFrom mv first second l n q last b s = sumTo (λ i. part (weightAt l n i) (valueFrom mv first second l n q b i s)) (last + 1)
 
--- neither row has a byte that is undecided, among the first s
-unfoldable pub bothDecided : (first second : List ℕ) → ℕ → Bool
-bothDecided first second zero = true
-bothDecided first second (suc s) = bothDecided first second s && leb (at first s) 1 && leb (at second s) 1
-
--- the sum over steps 0 to last of weight times value of a phase; the weights are those of the list
-abbrev pub phaseSum : (mv l : List ℕ) (n q last : ℕ) → Phase → ℕ → ℕ
-phaseSum mv l n q last ph s = sumTo (λ i. part (weightAt l n i) (valueOf mv (length mv) q ph i s)) (last + 1)
-
--- such sums are to be worked out, for an until
+-- such sums are to be worked out
 pub record ReadAsked (mv l first second : List ℕ) (n q last : ℕ) : Type 0 where
   pub rates : Rates mv l n q
   pub some : 0 < q
-  pub in-first : n ≤ length first
-  pub in-second : n ≤ length second
+  pub ends : EndsAsked l first second n
   pub limit : last < mostSteps
   pub room : weightsFrom n + last < totalAt n
   pub weights : (k : ℕ) → k ≤ last → weightAt l n k ≤ peak
@@ -71,38 +94,14 @@ pub record ReadAsked (mv l first second : List ℕ) (n q last : ℕ) : Type 0 wh
 -- they stand in their column; the ends, and all from the exit rates on but the step number, are as they were
 pub record Read (mv first second : List ℕ) (n q last : ℕ) (b : Bool) (l₀ l : List ℕ) : Type 0 where
   pub same : length l ≡ length l₀
-  pub sums : (s : ℕ) → s < n → sumAt l n s ≡ phaseSum mv l₀ n q last (readPhase b first second) s
+  pub sums : (s : ℕ) → s < n → sumAt l n s ≡ sumFrom mv first second l₀ n q last b s
   pub before : (k : ℕ) → k < valuesFrom n → at l k ≡ at l₀ k
   pub after : (k : ℕ) → exitsFrom n ≤ k → (k ≡ numberAt n → ⊥) → at l k ≡ at l₀ k
 
--- those with undecided read as no are there
-pub record HighAsked (mv l first second : List ℕ) (n q last : ℕ) : Type 0 where
+-- those with undecided read as yes are, unless they are there
+pub record HighAsked (mv l first second : List ℕ) (n q last : ℕ) (there : Bool) : Type 0 where
   pub asked : ReadAsked mv l first second n q last
-  pub sums : (s : ℕ) → s < n → sumAt l n s ≡ phaseSum mv l n q last (lowPhase first second) s
-
--- intervals are to be made of two ends
-pub record PointAsked (l first second : List ℕ) (n : ℕ) : Type 0 where
-  pub states : n ≤ mostStates
-  pub room : valuesFrom n ≤ length l
-  pub in-first : n ≤ length first
-  pub in-second : n ≤ length second
-  pub lowers : (s : ℕ) → s < n → at l s ≤ billion
-  pub uppers : (s : ℕ) → s < n → at l (n + s) ≤ billion
-
--- those that the two operands' verdicts leave
-abbrev pub Pointed : (first second : List ℕ) (n : ℕ) → (old new : List ℕ) → Type 0
-Pointed first second n old new =
-    EndsStored (λ s. pointed (verdicts first s) (verdicts second s) (at old s)) (λ s. pointed (verdicts first s) (verdicts second s) (at old (n + s))) n
-    old new
-
-pub record StillAsked (l second : List ℕ) (n : ℕ) : Type 0 where
-  pub states : n ≤ mostStates
-  pub room : valuesFrom n ≤ length l
-  pub in-second : n ≤ length second
-
--- those that the verdicts of a row stand for
-abbrev pub Still : (second : List ℕ) (n : ℕ) → (old new : List ℕ) → Type 0
-Still second n old new = EndsStored (λ s. report.lowerOf (verdicts second s)) (λ s. report.upperOf (verdicts second s)) n old new
+  pub sums : there ≡ true → (s : ℕ) → s < n → sumAt l n s ≡ sumFrom mv first second l n q last true s
 
 -- Both ends are to be made from weights that stand in the words, with their total: values of at most 1 sum up to no more than that.
 pub record BothAsked (mv l first second : List ℕ) (n q last : ℕ) : Type 0 where
@@ -115,9 +114,9 @@ pub record BothAsked (mv l first second : List ℕ) (n q last : ℕ) : Type 0 wh
 pub record Both (mv first second : List ℕ) (n q last : ℕ) (old new : List ℕ) : Type 0 where
   pub same : length new ≡ length old
   pub lowers : (s : ℕ) → s < n → at new s ≡ pointed (verdicts first s) (verdicts second s)
-      (phaseSum mv old n q last (lowPhase first second) s * scale / totalIn old n)
+      (sumFrom mv first second old n q last false s * scale / totalIn old n)
   pub uppers : (s : ℕ) → s < n → at new (n + s) ≡ pointed (verdicts first s) (verdicts second s)
-      (upperFrom (phaseSum mv old n q last (highPhase first second) s) (totalIn old n) (wholeOf old n last 0))
+      (upperFrom (sumFrom mv first second old n q last true s) (totalIn old n) (wholeOf old n last 0))
   pub after : (k : ℕ) → exitsFrom n ≤ k → (k ≡ numberAt n → ⊥) → at new k ≡ at old k
 
 -- a load above 0, of a hundred-millionths, is to be summed over
@@ -125,18 +124,37 @@ pub record SummedAsked (mv l first second : List ℕ) (n q a depth : ℕ) : Type
   pub prepared : Prepared mv l n q
   pub some : 0 < q
   pub weigh : WeighAsked l n a depth
-  pub in-first : n ≤ length first
-  pub in-second : n ≤ length second
+  pub ends : EndsAsked l first second n
 
--- the two ends of each state, and no other word changed
+-- the end that the values of a reading sum up to: the lower one with undecided read as no, the upper one with undecided read as yes
+abbrev pub endBy : Bool → (a depth : ℕ) → (ℕ → ℕ) → ℕ
+endBy true a depth v = upperEnd a rateHundredths (a / rateHundredths) depth 0 v
+endBy false a depth v = lowerEnd a rateHundredths (a / rateHundredths) depth v
+
+-- that of a state, in a phase that starts from the ends of a list
+abbrev pub summedEnd : (mv first second l : List ℕ) (n q a depth : ℕ) → Bool → ℕ → ℕ
+summedEnd mv first second l n q a depth b s =
+    pointed (verdicts first s) (verdicts second s) (endBy b a depth (λ k. valueFrom mv first second l n q b k s))
+
+-- the two ends stand in their places, and no other word is changed
 abbrev pub Summed : (mv first second : List ℕ) (n q a depth : ℕ) → (old new : List ℕ) → Type 0
 Summed mv first second n q a depth old new =
-    EndsStored
-    (λ s. pointed (verdicts first s) (verdicts second s)
-    (lowerEnd a rateHundredths (a / rateHundredths) depth (λ k. valueOf mv (length mv) q (lowPhase first second) k s)))
-    (λ s. pointed (verdicts first s) (verdicts second s)
-    (upperEnd a rateHundredths (a / rateHundredths) depth 0 (λ k. valueOf mv (length mv) q (highPhase first second) k s)))
-    n old new
+    EndsStored (summedEnd mv first second old n q a depth false) (summedEnd mv first second old n q a depth true) n old new
+
+-- a phase over t hundredths of an hour is to be worked out in prepared words, from the ends that stand there
+pub record PhaseAsked (mv l first second : List ℕ) (n q t : ℕ) : Type 0 where
+  pub prepared : Prepared mv l n q
+  pub load : Loaded n (q * t)
+  pub ends : EndsAsked l first second n
+
+-- the end of a state after it, which with load 0 is the one that it started from
+abbrev pub phaseEnd : (mv first second l : List ℕ) (n q a : ℕ) → Bool → ℕ → ℕ
+phaseEnd mv first second l n q a b s = cond (eqb a 0) (endOf b l n s) (summedEnd mv first second l n q a (loadDepth a) b s)
+
+-- the two ends stand in their places, and no other word is changed
+pub record Phased (mv first second : List ℕ) (n q t : ℕ) (old new : List ℕ) (depth : ℕ) : Type 0 where
+  pub deep : depth ≡ loadDepth (q * t)
+  pub ends : EndsStored (phaseEnd mv first second old n q (q * t) false) (phaseEnd mv first second old n q (q * t) true) n old new
 
 -- an until over t hundredths of an hour is to be worked out in prepared words, from two rows of verdict bytes
 pub record UntilAsked (mv l first second : List ℕ) (n q t : ℕ) : Type 0 where
@@ -158,3 +176,33 @@ upperUntil mv first second q t s =
 pub record Until (mv first second : List ℕ) (n q t : ℕ) (old new : List ℕ) (depth : ℕ) : Type 0 where
   pub deep : depth ≡ loadDepth (q * t)
   pub ends : EndsStored (lowerUntil mv first second q t) (upperUntil mv first second q t) n old new
+
+-- the phase before an until that begins after t hundredths of an hour, whose ends stand in prepared words: in that phase no state is a goal
+pub record EarlierAsked (mv l first none : List ℕ) (n q t : ℕ) : Type 0 where
+  pub prepared : Prepared mv l n q
+  pub load : Loaded n (q * t)
+  pub in-first : n ≤ length first
+  pub in-none : n ≤ length none
+  pub no-goal : (s : ℕ) → s < n → at none s ≡ 0
+  pub lowers : (s : ℕ) → s < n → at l s ≤ billion
+  pub uppers : (s : ℕ) → s < n → at l (n + s) ≤ billion
+
+-- the value of state s at step k of a phase that starts from x billionths where `holds` says so
+abbrev pub startedValue : (mv : List ℕ) (q : ℕ) (holds : ℕ → Bool) (x : ℕ → ℕ) → ℕ → ℕ → ℕ
+startedValue mv q holds x = runOf mv (length mv) q (λ i. unit * cond (holds i) (x i) 0) (heldOf (startedPhase holds x))
+
+-- the two ends at a state, from those of the until that follows
+abbrev pub lowerEarlier : (mv first l : List ℕ) (n q t : ℕ) → ℕ → ℕ
+lowerEarlier mv first l n q t s =
+    earlierLowerOf (q * t) rateHundredths (loadDepth (q * t)) (verdicts first s) (at l s)
+    (λ k. startedValue mv q (λ i. readAs false (verdicts first i)) (at l) k s)
+
+abbrev pub upperEarlier : (mv first l : List ℕ) (n q t : ℕ) → ℕ → ℕ
+upperEarlier mv first l n q t s =
+    earlierUpperOf (q * t) rateHundredths (loadDepth (q * t)) (verdicts first s) (at l (n + s))
+    (λ k. startedValue mv q (λ i. readAs true (verdicts first i)) (λ i. at l (n + i)) k s)
+
+-- they stand in their places, and no other word is changed
+pub record Earlier (mv first : List ℕ) (n q t : ℕ) (old new : List ℕ) (depth : ℕ) : Type 0 where
+  pub deep : depth ≡ loadDepth (q * t)
+  pub ends : EndsStored (lowerEarlier mv first old n q t) (upperEarlier mv first old n q t) n old new

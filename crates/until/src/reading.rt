@@ -1,25 +1,22 @@
-// The sums of an until over two rows of verdict bytes, undecided operand states read as yes or as no.
+// The sums of a phase that starts from the ends in the words, over two rows of verdict bytes, undecided operand states read as yes or as no.
 ghost use mathlib.Core.Path.{_≡_};
-ghost use mathlib.Core.Bool.{true, false, not, _||_};
-ghost use Prim.Native.Nat.{_*_};
-ghost use Rattle.csl.specs.Phase.{bit};
-ghost use Rattle.bounds.specs.Unit.{one};
+ghost use mathlib.Core.Bool.{true, not, cond, _||_};
 ghost use Rattle.phase.specs.Value.{stayOf};
 ghost use Rattle.until.specs.Run.{RunAsked, Ran};
-ghost use Rattle.until.specs.Asked.{StaysAsked, LayAsked, Laid, DecidedAsked, bothDecided, ReadAsked, Read, HighAsked};
+ghost use Rattle.until.specs.Asked.{StaysAsked, EndsAsked, LayAsked, Laid, allAlike, ReadAsked, Read, HighAsked};
 
-// Whether an until holds a state's value, by whether its operands hold there: at 1 where the second does, at 0 where neither does.
+// Where the ends of a reading stand: the lower ones for undecided read as no, the upper ones for undecided read as yes.
+fn starts(n: usize, as_yes: bool) -> usize
+    ensures { λ r. ⌜ r ≡ cond as_yes n 0 ⌝ }
+{
+    if as_yes { n } else { 0 }
+}
+
+// Whether a phase holds a state's value as it starts, by whether the operands hold there: where the second does, and where neither does.
 fn is_held(first: bool, second: bool) -> bool
     ensures { λ r. ⌜ r ≡ (second || not (first || second)) ⌝ }
 {
     second || !first
-}
-
-// The value of step 0 of an until, by whether the second operand holds.
-fn first_value(second: bool) -> u64
-    ensures { λ r. ⌜ r ≡ one * bit second ⌝ }
-{
-    if second { bounds::ONE } else { 0 }
 }
 
 // What stays put at a state with this exit rate, of q; more than q where its value is held.
@@ -30,16 +27,17 @@ fn stays(held: bool, q: u64, exit: u64) -> u64
     if held { q + 1 } else { q - exit }
 }
 
-// The start vector of an until, and what stays put.
+// The start vector of a phase, from the ends of its reading, and what stays put.
 fn lay(words: &mut [u64], first: &[u8], second: &[u8], n: usize, q: u64, as_yes: bool)
     requires { ⌜ LayAsked (now words) (now first) (now second) n q ⌝ }
     ensures { λ _. ⌜ Laid (now (first .entry)) (now (second .entry)) n q as_yes (now (words .entry)) (now (words .exit)) ⌝ }
 {
+    let from = starts(n, as_yes);
     let mut s: usize = 0;
     while s < n {
         let by_first = verdicts::holds(first[s], as_yes);
         let by_second = verdicts::holds(second[s], as_yes);
-        words[vectors::NEXT * n + s] = first_value(by_second);
+        words[vectors::NEXT * n + s] = bounds::UNIT * words[from + s];
         words[vectors::STAYS * n + s] = stays(
             is_held(by_first, by_second),
             q,
@@ -60,8 +58,8 @@ fn run(moves: &[u64], words: &mut [u64], n: usize, q: u64, last: usize)
     }
 }
 
-// The sums of weight times value over steps 0 to last, undecided operand states read as no.
-pub fn read_low(
+// The sums of weight times value over steps 0 to last, in one reading.
+pub fn read(
     moves: &[u64],
     words: &mut [u64],
     first: &[u8],
@@ -69,20 +67,21 @@ pub fn read_low(
     n: usize,
     q: u64,
     last: usize,
+    as_yes: bool,
 )
     requires { ⌜ ReadAsked (now moves) (now words) (now first) (now second) n q last ⌝ }
-    ensures { λ _. ⌜ Read (now (moves .entry)) (now (first .entry)) (now (second .entry)) n q last false
+    ensures { λ _. ⌜ Read (now (moves .entry)) (now (first .entry)) (now (second .entry)) n q last as_yes
         (now (words .entry)) (now (words .exit)) ⌝ }
 {
-    lay(words, first, second, n, q, false);
+    lay(words, first, second, n, q, as_yes);
     phase::begin(words, n);
     run(moves, words, n, q, last);
 }
 
-// Whether no state is undecided in either row of verdict bytes.
-fn decided(first: &[u8], second: &[u8], n: usize) -> bool
-    requires { ⌜ DecidedAsked (now first) (now second) n ⌝ }
-    ensures { λ r. ⌜ r ≡ bothDecided (now (first .entry)) (now (second .entry)) n ⌝ }
+// Whether both readings are one: no state is undecided in either row of verdict bytes, and the two ends of each state are the same.
+pub fn alike(words: &[u64], first: &[u8], second: &[u8], n: usize) -> bool
+    requires { ⌜ EndsAsked (now words) (now first) (now second) n ⌝ }
+    ensures { λ r. ⌜ r ≡ allAlike (now (words .entry)) (now (first .entry)) (now (second .entry)) n n ⌝ }
 {
     let mut s: usize = 0;
     while s < n {
@@ -92,12 +91,15 @@ fn decided(first: &[u8], second: &[u8], n: usize) -> bool
         if 1 < second[s] {
             return false;
         }
+        if words[s] != words[n + s] {
+            return false;
+        }
         s += 1;
     }
     true
 }
 
-// From the sums with undecided read as no, those with undecided read as yes: the same where nothing is undecided.
+// The sums with undecided read as yes, unless they stand there already.
 pub fn read_high(
     moves: &[u64],
     words: &mut [u64],
@@ -106,15 +108,14 @@ pub fn read_high(
     n: usize,
     q: u64,
     last: usize,
+    there: bool,
 )
-    requires { ⌜ HighAsked (now moves) (now words) (now first) (now second) n q last ⌝ }
+    requires { ⌜ HighAsked (now moves) (now words) (now first) (now second) n q last there ⌝ }
     ensures { λ _. ⌜ Read (now (moves .entry)) (now (first .entry)) (now (second .entry)) n q last true
         (now (words .entry)) (now (words .exit)) ⌝ }
 {
-    if decided(first, second, n) {
+    if there {
         return;
     }
-    lay(words, first, second, n, q, true);
-    phase::begin(words, n);
-    run(moves, words, n, q, last);
+    read(moves, words, first, second, n, q, last, true);
 }

@@ -8,7 +8,7 @@ use Rattle.csl.specs.Limits.{mostStates, mostRate}
 use Rattle.numbers.specs.Sum.{greatest-le, greatest-most}
 use Rattle.rate_matrix.specs.Words.{at, exitOf, topOf, rowOf, Lines}
 use Rattle.rate_matrix.specs.Away.{ownOf, AwayWords}
-use Rattle.vectors.specs.Places.{valuesFrom, exitsFrom, weightsFrom, marksFrom, vectorLength, ownsFrom, exitAt, endAt}
+use Rattle.vectors.specs.Places.{valuesFrom, exitsFrom, weightsFrom, marksFrom, vectorLength, ownsFrom, exitAt, endAt, EndsStored}
 
 -- The exit rates and the row ends of the move words mv stand in their places, for n states, and q is the greatest exit rate.
 pub record Rates (mv l : List ℕ) (n q : ℕ) : Type 0 where
@@ -51,6 +51,10 @@ prepared-kept p e h =
         weights = λ k a b. h k (omega arith) b (λ c d. omega arith) ∙ p .clear .weights k a b;
       };
     }
+
+-- so they are where two ends were stored for each state
+pub ends-prepared : {mv l l' : List ℕ} {n q : ℕ} {lower upper : ℕ → ℕ} → Prepared mv l n q → EndsStored lower upper n l l' → Prepared mv l' n q
+ends-prepared p s = prepared-kept p (s .same) (λ k a b o. s .after k a)
 
 -- no exit rate is over q, and q is not over the limit
 module _ {mv l : List ℕ} {n q : ℕ} (p : Rates mv l n q) where

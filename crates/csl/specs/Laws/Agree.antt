@@ -2,10 +2,10 @@
 use mathlib.Core.Path.{_≡_, refl}
 use mathlib.Core.Bool.{Bool, true, false, not, _&&_, and-false}
 use Prim.Native.Nat.{ℕ}
-use Rattle.csl.specs.Formula.{Comparison, Formula, always, label, negated, both, chance, Path, until, nextMove, PathOf}
+use Rattle.csl.specs.Formula.{Comparison, Formula, always, label, negated, both, chance, Path, until, nextMove, between, PathOf}
 use Rattle.csl.specs.Chain.{Chain}
 use Rattle.csl.specs.Verdicts.{Verdict, No, Yes, Undecided, marked, negation, conjunction, Agrees, Reading}
-use Rattle.csl.specs.Path.{Reads, reads-until, reads-next}
+use Rattle.csl.specs.Path.{Reads, reads-until, reads-next, reads-between}
 use Rattle.csl.specs.Backing.{Backed, PathBacked, ChanceKeeps}
 use Rattle.csl.specs.Truth.{Obeys, PathObeys, ChanceObeys}
 
@@ -78,6 +78,15 @@ module _ (c : Chain) (one : ChanceAgrees c) where
           verdicts = _;
           entries = _;
           reads = reads-next (k .first) (o .first) (agrees a _ _ (k .first-backed) (o .first-obeys));
+          kept = k .keeps;
+          obeyed = o .entry;
+        }
+    met (between t u a e) r p lower upper v b k o =
+        record {
+          verdicts = _;
+          entries = _;
+          reads = reads-between t u (k .first) (k .second) (o .first) (o .second) (agrees a _ _ (k .first-backed) (o .first-obeys))
+              (agrees e _ _ (k .second-backed) (o .second-obeys));
           kept = k .keeps;
           obeyed = o .entry;
         }

@@ -5,7 +5,7 @@ use Prim.Native.Nat.{ℕ, zero, suc, _*_, _<_}
 use native.Mathlib.Omega.{arith}
 use Rattle.csl.specs.Text.{Text, bytes}
 use Rattle.csl.specs.Limits.{billion, hour}
-use Rattle.csl.specs.Formula.{always, label, negated, both, chance, Path, until, PathOf, untilOf, nextOf, Comparison, AtLeast}
+use Rattle.csl.specs.Formula.{always, label, negated, both, chance, Path, until, PathOf, untilOf, nextOf, betweenOf, Comparison, AtLeast}
 use Rattle.csl.specs.Chain.{Chain, topRate}
 use Rattle.csl.specs.Verdicts.{Verdict, No, Yes, marked, negation, conjunction, judged, asNo, asYes, least, Sides}
 use Rattle.csl.specs.Graph.{Tells, AllDecided}
@@ -149,6 +149,9 @@ at-least-0-sides c (untilOf t a b) s lower upper =
     record { at-0 = λ d e. refl; at-1 = λ d e. absurd (omega arith); elsewhere = λ n x a b. omega arith }
 at-least-0-sides c (nextOf a) s lower upper =
     record { at-0 = λ d e. refl; at-1 = λ d e. absurd (omega arith); elsewhere = λ n x a b. omega arith }
+at-least-0-sides c (betweenOf zero u a b) s lower upper =
+    record { at-0 = λ d e. refl; at-1 = λ d e. absurd (omega arith); elsewhere = λ n x a b. omega arith }
+at-least-0-sides c (betweenOf (suc t) u a b) s lower upper = λ x a b. omega arith
 
 at-least-zero : (c : Chain) (w : Path) (lower upper : ℕ → ℕ) (v : ℕ → Verdict) → Reported c (chance AtLeast 0 w) lower upper v
     → AtEach c λ s. v s ≡ Yes

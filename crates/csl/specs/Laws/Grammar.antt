@@ -13,8 +13,8 @@ use borrow.Author.Tests.{eqb-true}
 use Rattle.csl.specs.Text.{Text, bytes, same}
 use Rattle.csl.specs.Labels.{isWord}
 use Rattle.csl.specs.Hours.{hundredthsOf}
-use Rattle.csl.specs.Formula.{Formula, always, label, negated, both, chance, until, nextMove, Comparison}
-use Rattle.csl.specs.Grammar.{Found, nothing, found, Reader, andThen, comparisonOf, numberOf, onToken, single, pair, PathHead, untils, nexts, noPath, pathHeadOf, pathBehind, path, Head, truth, name, bang, ampersand, chances, other, headOf, state, readState, whole, Spells, spells-truth, spells-name, spells-not, spells-both, spells-until, spells-next}
+use Rattle.csl.specs.Formula.{Formula, always, label, negated, both, chance, until, nextMove, between, Comparison}
+use Rattle.csl.specs.Grammar.{Found, nothing, found, Reader, andThen, comparisonOf, numberOf, onToken, single, pair, PathHead, untils, nexts, betweens, noPath, pathHeadOf, pathBehind, path, Head, truth, name, bang, ampersand, chances, other, headOf, state, readState, whole, Spells, spells-truth, spells-name, spells-not, spells-both, spells-until, spells-next, spells-between}
 use Rattle.csl.specs.Laws.Computing.{computing}
 
 -- what is found has been found before
@@ -91,16 +91,19 @@ head-is w = go (same w (bytes "tt")) (isWord w) (same w (bytes "!")) (same w (by
 unfoldable PathHeadIs : Text → PathHead → Type 0
 PathHeadIs w untils = w ≡ bytes "U"
 PathHeadIs w nexts = w ≡ bytes "X"
+PathHeadIs w betweens = w ≡ bytes "V"
 PathHeadIs w noPath = Unit {0}
 
 path-head-is : (w : Text) → PathHeadIs w (pathHeadOf w)
 unfolding pathHeadOf PathHeadIs
-path-head-is w = go (same w (bytes "U")) (same w (bytes "X")) refl refl
+path-head-is w = go (same w (bytes "U")) (same w (bytes "X")) (same w (bytes "V")) refl refl refl
   where
-    go : (a b : Bool) → same w (bytes "U") ≡ a → same w (bytes "X") ≡ b → PathHeadIs w (cond a untils (cond b nexts noPath))
-    go true b h i = same-true _ _ h
-    go false true h i = same-true _ _ i
-    go false false h i = tt
+    go : (a b c : Bool) → same w (bytes "U") ≡ a → same w (bytes "X") ≡ b → same w (bytes "V") ≡ c
+        → PathHeadIs w (cond a untils (cond b nexts (cond c betweens noPath)))
+    go true b c h i j = same-true _ _ h
+    go false true c h i j = same-true _ _ i
+    go false false true h i j = same-true _ _ j
+    go false false false h i j = tt
 
 -- tokens that spell a formula, and what stands after them
 pub record Spelled (f : Formula) (ts rest : List Text) : Type 0 where
@@ -192,6 +195,18 @@ path-behind-sound read sound sign threshold r v w nexts u ts f rest e i h =
       split = ap (λ (x : Text). bytes "P" ∷ sign ∷ threshold ∷ x ∷ ts) u
           ∙ ap (λ (l : List Text). bytes "P" ∷ sign ∷ threshold ∷ bytes "X" ∷ l) (p .split);
     }
+path-behind-sound read sound sign threshold r v w betweens u ts f rest e i h =
+    let n = token-found hundredthsOf ts _ f rest h in
+    let m = token-found hundredthsOf (n .more) _ f rest (n .after) in
+    let p = pair-sound read sound (λ a b. chance r v (between (n .value) (m .value) a b)) (m .more) f rest (m .after) in
+    record {
+      tokens = bytes "P" ∷ sign ∷ threshold ∷ bytes "V" ∷ n .token ∷ m .token ∷ p .s ++ p .t;
+      spells = subst (λ x. Spells x (bytes "P" ∷ sign ∷ threshold ∷ bytes "V" ∷ n .token ∷ m .token ∷ p .s ++ p .t)) (p .is)
+          (spells-between sign threshold (n .token) (m .token) r v (n .value) (m .value) e i (n .is) (m .is) (p .first) (p .second));
+      split = ap (λ (x : Text). bytes "P" ∷ sign ∷ threshold ∷ x ∷ ts) u
+          ∙ ap (λ (l : List Text). bytes "P" ∷ sign ∷ threshold ∷ bytes "V" ∷ l)
+          (n .tokens ∙ ap (λ (l : List Text). n .token ∷ l) (m .tokens ∙ ap (λ (l : List Text). m .token ∷ l) (p .split)));
+    }
 path-behind-sound read sound sign threshold r v w noPath u ts f rest e i h = nothing-found f rest h
 
 path-sound : (read : Reader) → Sound read → (sign threshold : Text) (r : Comparison) (v : ℕ) (ts : List Text) (f : Formula) (rest : List Text)
@@ -270,9 +285,9 @@ spelled-token : {A : Type 0} (spelled : Text → Option A) (w : Text) (ts : List
 unfolding onToken
 spelled-token spelled w ts next a e = rw (e, onToken) refl
 
-path-heads : (pathHeadOf (bytes "U") ≡ untils) × (pathHeadOf (bytes "X") ≡ nexts)
+path-heads : (pathHeadOf (bytes "U") ≡ untils) × (pathHeadOf (bytes "X") ≡ nexts) × (pathHeadOf (bytes "V") ≡ betweens)
 unfolding computing
-path-heads = (refl, refl)
+path-heads = (refl, refl, refl)
 
 headed-path : (read : Reader) (r : Comparison) (p : ℕ) (w : Text) (head : PathHead) (ts : List Text) → pathHeadOf w ≡ head
     → path read r p (w ∷ ts) ≡ pathBehind read r p head ts
@@ -296,6 +311,17 @@ unfolding state pathBehind
 next-complete read a s sign threshold r v e i h rest =
     spelled-token comparisonOf sign _ _ r e ∙ spelled-token numberOf threshold _ _ v i ∙ headed-path read r v (bytes "X") nexts _ (path-heads .1)
     ∙ single-complete read (λ a. chance r v (nextMove a)) a s h rest
+
+between-complete : (read : Reader) (a b : Formula) (s t : List Text) (sign threshold earlier later : Text) (r : Comparison) (v u x : ℕ)
+    → comparisonOf sign ≡ some r → numberOf threshold ≡ some v → hundredthsOf earlier ≡ some u → hundredthsOf later ≡ some x
+    → Complete read a s → Complete read b t → (rest : List Text)
+    → state read (bytes "P") chances (sign ∷ threshold ∷ bytes "V" ∷ earlier ∷ later ∷ (s ++ t ++ rest))
+    ≡ found (chance r v (between u x a b)) rest
+unfolding state pathBehind
+between-complete read a b s t sign threshold earlier later r v u x e i j m h k rest =
+    spelled-token comparisonOf sign _ _ r e ∙ spelled-token numberOf threshold _ _ v i ∙ headed-path read r v (bytes "V") betweens _ (path-heads .2)
+    ∙ spelled-token hundredthsOf earlier _ _ u j ∙ spelled-token hundredthsOf later _ _ x m
+    ∙ pair-complete read (λ a b. chance r v (between u x a b)) a b s t h k rest
 
 not-complete : (read : Reader) (a : Formula) (s rest : List Text) → Complete read a s → state read (bytes "!") bang (s ++ rest) ≡ found (negated a) rest
 unfolding state
@@ -341,6 +367,11 @@ read-complete (spells-until {a = a} {b = b} {s = s} {t = t} sign threshold hours
 read-complete (spells-next sign threshold r v e i p) zero l rest = absurd (omega arith)
 read-complete (spells-next {a = a} {s = s} sign threshold r v e i p) (suc k) l rest =
     rw (fixed-heads .3) (next-complete (readState k) a s sign threshold r v e i (λ x. read-complete p k (omega arith) x) rest)
+read-complete (spells-between sign threshold earlier later r v u x e i j m p q) zero l rest = absurd (omega arith)
+read-complete (spells-between {a = a} {b = b} {s = s} {t = t} sign threshold earlier later r v u x e i j m p q) (suc k) l rest =
+    rw (fixed-heads .3)
+    (between-complete (readState k) a b s t sign threshold earlier later r v u x e i j m
+    (λ y. read-complete p k (omega (arith, length-append s t)) y) (λ y. read-complete q k (omega (arith, length-append s t)) y) rest)
 
 -- so tokens are read as a formula exactly where they spell it, all of them
 whole-found : (x : Found) (f : Formula) → whole x ≡ some f → x ≡ found f []

@@ -8,7 +8,7 @@ use lib.Dec.{leb, ltb}
 use borrow.Author.Tests.{leb-true, ltb-true}
 use Rattle.csl.specs.Formula.{Comparison, Less, AtMost, AtLeast, More}
 use Rattle.csl.specs.Fraction.{Fraction, IsFraction, Below, plus, billionths, part}
-use Rattle.csl.specs.Limit.{Value, exact, limit, Each, FromSome, LimitIs, FractionIs, Holds, opposite}
+use Rattle.csl.specs.Limit.{Value, exact, limit, limits, Each, FromSome, FromSomePair, LimitIs, FractionIs, Holds, opposite}
 use Rattle.csl.specs.Verdicts.{Verdict, No, Yes, Undecided, negation, judged, judgedAtLeast, judgedMore, Agrees, Decided, asNo}
 use Rattle.csl.specs.Truth.{Entry}
 use Rattle.csl.specs.Laws.Value.{Fractions}
@@ -62,14 +62,14 @@ module _ (T : Comparison → Type 0) (p lower upper : ℕ)
   says AtLeast = says-low
   says More = says-high
 
--- quotients of which P holds from some depth on, and Q: at one of them both do
+-- quotients of which P holds from some depth on, or from some pair of depths, and Q: at one of them both do
 pub record Common (P Q : Fraction → Type 0) : Type 0 where
   pub at : Fraction
   pub is : IsFraction at
   pub left : P at
   pub right : Q at
 
--- limits: In P says that from some depth on all quotients are P
+-- limits: In P says that from some depth, or pair of depths, on all quotients are P
 module _ (In : (Fraction → Type 0) → Type 0) (p : ℕ) where
   module _ (meet : (P Q : Fraction → Type 0) → In P → In Q → Common P Q) where
     low-apart : LimitIs AtLeast p In → LimitIs Less p In → ⊥
@@ -114,6 +114,12 @@ from-meet x is P Q h k =
     let n : ℕ = h .begin + k .begin in
     record { at = x n; is = is n; left = h .all n (omega arith); right = k .all n (omega arith) }
 
+pair-meet : (x : ℕ → ℕ → Fraction) → ((m n : ℕ) → IsFraction (x m n)) → (P Q : Fraction → Type 0) → FromSomePair x P → FromSomePair x Q → Common P Q
+pair-meet x is P Q h k =
+    let m : ℕ = h .begin + k .begin in
+    let n : ℕ = h .begin-later + k .begin-later in
+    record { at = x m n; is = is m n; left = h .all m n (omega arith) (omega arith); right = k .all m n (omega arith) (omega arith) }
+
 -- exact fractions
 exact-apart : (x : Fraction) (p : ℕ) (r : Comparison) → FractionIs r p x → FractionIs (opposite r) p x → ⊥
 exact-apart x p Less h k = omega (arith, h, k)
@@ -132,12 +138,16 @@ exact-says x is p lower upper b a =
 pub apart : (x : Value) → Fractions x → (p : ℕ) (r : Comparison) → Holds r p x → Holds (opposite r) p x → ⊥
 apart (exact x) is p r h k = exact-apart x p r h k
 apart (limit d x) is p r h k = limit-apart (FromSome x) p (from-meet x is) r h k
+apart (limits d e x) is p r h k = limit-apart (FromSomePair x) p (pair-meet x is) r h k
 
 pub settles : (x : Value) → Fractions x → (lower upper : ℕ) → Each (λ y. Below (billionths lower) y) x
     → Each (λ y. Below y (billionths upper)) x → (r : Comparison) (p : ℕ) → Settles (judged r p lower upper) r p x
 settles (exact x) is lower upper below above r p = exact-says x is p lower upper below above r
 settles (limit d x) is lower upper below above r p =
     limit-says (FromSome x) p lower upper (λ P f. record { begin = d; all = λ n l. f (x n) (below n l) (above n l) }) r
+settles (limits d e x) is lower upper below above r p =
+    limit-says (FromSomePair x) p lower upper
+    (λ P f. record { begin = d; begin-later = e; all = λ m n i j. f (x m n) (below m n i j) (above m n i j) }) r
 
 -- so an entry that obeys agrees
 pub entry-agrees : (x : Value) → Fractions x → (r : Comparison) (p : ℕ) (v : Verdict) (b : Bool) → Settles v r p x → Entry r p x b → Agrees v b

@@ -1,7 +1,7 @@
 -- Moves to the own state: what they add to a sum over the states, and that until does not look at them. Assumes nothing.
 use mathlib.Core.Path.{_≡_, refl, ap, _∙_}
 use mathlib.Core.Bool.{Bool, true, false, cond}
-use Prim.Native.Nat.{ℕ, zero, suc, _+_, _*_, _≤_, _<_}
+use Prim.Native.Nat.{ℕ, zero, suc, _+_, _*_, _-_, _≤_, _<_}
 use native.Mathlib.Omega.{arith}
 use lib.Dec.{eqb}
 use borrow.Author.Tests.{eqb-true, eqb-false, ne-eqb}
@@ -10,6 +10,7 @@ use Rattle.csl.specs.Chain.{Chain, sumTo, greatest, away, exitRate, topR
 use Rattle.csl.specs.Phase.{Phase, bit, moved, divisor, stepTop, stepValue, weight, quotient}
 use Rattle.csl.specs.Next.{nextExitRate, enteringRate}
 use Rattle.csl.specs.Until.{untilPhase, untilQuotient}
+use Rattle.csl.specs.Between.{betweenQuotient}
 use Rattle.csl.specs.Laws.Sum.{sum-cong, greatest-cong}
 
 module _ (c : Chain) (v : ℕ → ℕ) (s : ℕ) where
@@ -60,6 +61,13 @@ pub record SameElsewhere (c d : Chain) : Type 0 where
   pub states : c .states ≡ d .states
   pub rates : (s t : ℕ) → (s ≡ t → ⊥) → c .rate s t ≡ d .rate s t
 
+-- two phases that start from the same values and hold to the same
+pub record SamePhase (ph ph' : Phase) : Type 0 where
+  pub wholes : ph .whole ≡ ph' .whole
+  pub starts : (s : ℕ) → ph .start s ≡ ph' .start s
+  pub ones : (s : ℕ) → ph .one s ≡ ph' .one s
+  pub nils : (s : ℕ) → ph .nil s ≡ ph' .nil s
+
 fractions-same : (f g : ℕ → Fraction) (n : ℕ) → ((k : ℕ) → f k ≡ g k) → sumUp f n ≡ sumUp g n
 unfolding sumUp
 fractions-same f g zero h = h 0
@@ -100,18 +108,31 @@ module _ {c d : Chain} (e : SameElsewhere c d) where
   divisor-same whole zero = refl
   divisor-same whole (suc k) = rw (divisor-same whole k, top-same) refl
 
-  step-same : (ph : Phase) (k s : ℕ) → stepTop c ph k s ≡ stepTop d ph k s
+  step-same : {ph ph' : Phase} → SamePhase ph ph' → (k s : ℕ) → stepTop c ph k s ≡ stepTop d ph' k s
   unfolding stepTop
-  step-same ph zero s = refl
-  step-same ph (suc k) s =
-      rw (top-same, step-same ph k s, divisor-same (ph .whole) (suc k), moved-same (stepTop c ph k) (stepTop d ph k) s (step-same ph k)) refl
+  step-same h zero s = h .starts s
+  step-same {ph} {ph'} h (suc k) s =
+      rw (
+        top-same,
+        step-same h k s,
+        moved-same (stepTop c ph k) (stepTop d ph' k) s (step-same h k),
+        h .ones s,
+        h .nils s,
+        h .wholes,
+        divisor-same (ph' .whole) (suc k),
+      ) refl
 
-  value-same : (ph : Phase) (s k : ℕ) → stepValue c ph s k ≡ stepValue d ph s k
-  value-same ph s k = rw (step-same ph k s, divisor-same (ph .whole) k) refl
+  value-same : {ph ph' : Phase} → SamePhase ph ph' → (s k : ℕ) → stepValue c ph s k ≡ stepValue d ph' s k
+  value-same {ph} {ph'} h s k = rw (step-same h k s, h .wholes, divisor-same (ph' .whole) k) refl
 
   load-same : (t : ℕ) → load c t ≡ load d t
   unfolding load
   load-same t = rw top-same refl
+
+  phase-quotient-same : (t : ℕ) {ph ph' : Phase} → SamePhase ph ph' → (s n : ℕ)
+      → quotient (load c t) (stepValue c ph s) n ≡ quotient (load d t) (stepValue d ph' s) n
+  phase-quotient-same t {ph} {ph'} h s n =
+      rw (load-same t) (quotient-same (load d t) (stepValue c ph s) (stepValue d ph' s) (value-same h s) n)
 
   -- so until's depth and quotients are the same
   pub depth-same : (t : ℕ) → depth c t ≡ depth d t
@@ -120,4 +141,16 @@ module _ {c d : Chain} (e : SameElsewhere c d) where
 
   pub until-same-elsewhere : (t : ℕ) (x y : ℕ → Bool) (s n : ℕ) → untilQuotient c t x y s n ≡ untilQuotient d t x y s n
   until-same-elsewhere t x y s n =
-      rw (load-same t) (quotient-same (load d t) (stepValue c (untilPhase x y) s) (stepValue d (untilPhase x y) s) (value-same (untilPhase x y) s) n)
+      phase-quotient-same t (record { wholes = refl; starts = λ i. refl; ones = λ i. refl; nils = λ i. refl }) s n
+
+  -- and those of until between two times
+  pub between-same-elsewhere : (t u : ℕ) (x y : ℕ → Bool) (s m n : ℕ) → betweenQuotient c t u x y s m n ≡ betweenQuotient d t u x y s m n
+  between-same-elsewhere t u x y s m n =
+      let later : (i : ℕ) → untilQuotient c (u - t) x y i n ≡ untilQuotient d (u - t) x y i n = λ i. until-same-elsewhere (u - t) x y i n in
+      phase-quotient-same t
+      (record {
+        wholes = ap (λ (z : Fraction). z .bottom) (later 0);
+        starts = λ i. ap (λ (z : Fraction). cond (x i) (z .top) 0) (later i);
+        ones = λ i. refl;
+        nils = λ i. refl;
+      }) s m

@@ -1,7 +1,7 @@
 -- Every truth table that obeys CSL's rules agrees with every backing, and a backing with nothing undecided is such a table. Assumes nothing.
 use mathlib.Core.Bool.{Bool}
 use Prim.Native.Nat.{ℕ, _<_}
-use Rattle.csl.specs.Formula.{Comparison, Formula, always, label, negated, both, chance, Path, until, nextMove, PathOf, untilOf, nextOf, mapped}
+use Rattle.csl.specs.Formula.{Comparison, Formula, always, label, negated, both, chance, Path, until, nextMove, between, PathOf, untilOf, nextOf, betweenOf, mapped}
 use Rattle.csl.specs.Chain.{Chain}
 use Rattle.csl.specs.Verdicts.{Verdict, Reading, asNo, least}
 use Rattle.csl.specs.Path.{AllDecided, valueAt, Reads}
@@ -83,4 +83,12 @@ mutual
         first = λ s. asNo (k .first s);
         first-obeys = verdicts-obey c a _ (k .first-backed) d;
         entry = chance-obeys c r p lower upper v (nextOf (k .first)) (k .keeps) i;
+      }
+  path-obeys c (between t u a e) r p lower upper v k i d =
+      record {
+        first = λ s. asNo (k .first s);
+        first-obeys = verdicts-obey c a _ (k .first-backed) (d .0);
+        second = λ s. asNo (k .second s);
+        second-obeys = verdicts-obey c e _ (k .second-backed) (d .1);
+        entry = chance-obeys c r p lower upper v (betweenOf t u (k .first) (k .second)) (k .keeps) i;
       }

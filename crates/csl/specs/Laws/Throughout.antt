@@ -2,11 +2,11 @@
 use mathlib.Core.Path.{refl, sym, _∙_}
 use mathlib.Core.Bool.{Bool, true, false, not, _&&_, _||_}
 use Prim.Native.Nat.{ℕ}
-use Rattle.csl.specs.Formula.{Comparison, Formula, always, label, negated, both, chance, Path, until, nextMove, PathOf, untilOf, nextOf}
+use Rattle.csl.specs.Formula.{Comparison, Formula, always, label, negated, both, chance, Path, until, nextMove, between, PathOf, untilOf, nextOf, betweenOf}
 use Rattle.csl.specs.Chain.{Chain}
 use Rattle.csl.specs.Limit.{Value}
 use Rattle.csl.specs.Verdicts.{Verdict, No, Yes, Undecided, Agrees, asNo}
-use Rattle.csl.specs.Path.{valueAt, SidesAt, Reads, reads-until, reads-next}
+use Rattle.csl.specs.Path.{valueAt, SidesAt, Reads, reads-until, reads-next, reads-between}
 use Rattle.csl.specs.Backing.{AtEach, Backed, PathBacked, ChanceKeeps, SidesThroughout, SidesThroughoutIn}
 use Rattle.csl.specs.Truth.{Throughout, ThroughoutIn, Obeys, PathObeys, ChanceObeys}
 use Rattle.csl.specs.Laws.Value.{Fractions}
@@ -38,6 +38,8 @@ mutual
   throughout-in c (until t a e) r p lower upper v b k o =
       (throughout c a _ _ (k .first-backed) (o .first-obeys), throughout c e _ _ (k .second-backed) (o .second-obeys))
   throughout-in c (nextMove a) r p lower upper v b k o = throughout c a _ _ (k .first-backed) (o .first-obeys)
+  throughout-in c (between t u a e) r p lower upper v b k o =
+      (throughout c a _ _ (k .first-backed) (o .first-obeys), throughout c e _ _ (k .second-backed) (o .second-obeys))
 
 -- demand 2's rule, of one `P` and of every `P`
 pub sides : (c : Chain) (r : Comparison) (p : ℕ) (lower upper : ℕ → ℕ) (v : ℕ → Verdict) (o : PathOf (ℕ → Verdict))
@@ -63,6 +65,8 @@ mutual
   sides-throughout-in c (until t a e) r p lower upper v k =
       (sides-throughout c a _ (k .first-backed), sides-throughout c e _ (k .second-backed))
   sides-throughout-in c (nextMove a) r p lower upper v k = sides-throughout c a _ (k .first-backed)
+  sides-throughout-in c (between t u a e) r p lower upper v k =
+      (sides-throughout c a _ (k .first-backed), sides-throughout c e _ (k .second-backed))
 
 -- one yes or no agrees with both verdicts
 pub record Together (v w : Verdict) : Type 0 where
@@ -173,6 +177,20 @@ mutual
         reading = nextOf x;
         one-read = reads-next (k .first) x (λ u q. together-left _ _ (h u q));
         other-read = reads-next (m .first) x (λ u q. together-right _ _ (h u q));
+        one-kept = k .keeps;
+        other-kept = m .keeps;
+      }
+  shared c (between t t' a e) r p lower upper v lower' upper' w k m =
+      let h : AtEach c λ u. Together (k .first u) (m .first u) = backings-agree c a _ _ (k .first-backed) (m .first-backed) in
+      let j : AtEach c λ u. Together (k .second u) (m .second u) = backings-agree c e _ _ (k .second-backed) (m .second-backed) in
+      let x : ℕ → Bool = λ u. either (k .first u) (m .first u) in
+      let y : ℕ → Bool = λ u. either (k .second u) (m .second u) in
+      record {
+        one = _;
+        other = _;
+        reading = betweenOf t t' x y;
+        one-read = reads-between t t' (k .first) (k .second) x y (λ u q. together-left _ _ (h u q)) (λ u q. together-left _ _ (j u q));
+        other-read = reads-between t t' (m .first) (m .second) x y (λ u q. together-right _ _ (h u q)) (λ u q. together-right _ _ (j u q));
         one-kept = k .keeps;
         other-kept = m .keeps;
       }

@@ -5,4 +5,15 @@ use Rattle.csl.specs.Laws.Computing.{computing}
 
 pub trial-quotients : TrialQuotients
 unfolding computing
-trial-quotients = record { state-0 = refl; state-1 = refl; state-2 = refl }
+trial-quotients =
+    record {
+      state-0 = refl;
+      state-1 = refl;
+      state-2 = refl;
+      pair-0 = refl;
+      pair-1 = refl;
+      pair-2 = refl;
+      pair-tt-0 = refl;
+      pair-tt-1 = refl;
+      pair-tt-2 = refl;
+    }

@@ -4,14 +4,11 @@ use Rattle.until.proofs.UntilLaw.{until-laws}
 use Rattle.until.proofs.until.Statement.{statement}
 use Rattle.until.proofs.until.Tie as tie
 
-mul-a : tie.Need-mul-a
-mul-a c = search (needs, until-laws)
-
-depth-of-requires : tie.Need-depth-of-requires
-depth-of-requires c κs = search (needs, until-laws)
-
 still-requires : tie.Need-still-requires
 still-requires c κs = search (needs, until-laws)
+
+phase-over-requires : tie.Need-phase-over-requires
+phase-over-requires c κs = search (needs, until-laws)
 
 same-length : tie.Need-same-length
 same-length c = search (needs, until-laws)
@@ -19,24 +16,5 @@ same-length c = search (needs, until-laws)
 returns : tie.Need-returns
 returns c = search (needs, until-laws)
 
-summed-requires : tie.Need-summed-requires
-summed-requires c κs = search (needs, until-laws)
-
-same-length-2 : tie.Need-same-length-2
-same-length-2 c = search (needs, until-laws)
-
-returns-2 : tie.Need-returns-2
-returns-2 c = search (needs, until-laws)
-
 pub until-spec : {M : Type 1} → statement M
-until-spec =
-    tie.close
-    (tie.spec
-    mul-a
-    depth-of-requires
-    still-requires
-    same-length
-    returns
-    summed-requires
-    same-length-2
-    returns-2)
+until-spec = tie.close (tie.spec still-requires phase-over-requires same-length returns)

@@ -1,5 +1,5 @@
 -- `decide_all` meets its contract. Assumes nothing.
-use Rattle.checker.proofs.ReportLaw.{decide-laws, store-asked, some, decide-asked, all-decided}
+use Rattle.checker.proofs.ReportLaw.{decide-laws, store-asked, some, marks-counted, decide-asked, all-decided}
 use mathlib.Core.Path.{refl}
 use borrow.Author.Needs.{needs}
 use Rattle.checker.proofs.passed.decide_all.Statement.{statement}
@@ -42,7 +42,12 @@ slice-relend-prefix-decide : tie.Need-slice-relend-prefix-decide
 slice-relend-prefix-decide c = search needs
 
 slice-aggregate-decide-2 : tie.Need-slice-aggregate-decide-2
-slice-aggregate-decide-2 c = search (needs, decide-laws)
+slice-aggregate-decide-2 c =
+    let cleared = c .before .before .before .before .before .before .before in
+    let stored = cleared .before .before .before .before .before .before in
+    let asked = stored .before .before .before in
+    let began = asked .before .before .before .before .before .before .before .before in
+    search (needs, marks-counted (began .pre) (asked .all-pass .ensures) refl (stored .store .ensures) (cleared .clear .ensures))
 
 decide-requires : tie.Need-decide-requires
 decide-requires c κs =

@@ -16,6 +16,12 @@ enum-told c = search needs
 over-next-requires : tie.Need-over-next-requires
 over-next-requires c κs = search (needs, chance-laws)
 
+enum-known-path-2 : tie.Need-enum-known-path-2
+enum-known-path-2 c = search needs
+
+over-between-requires : tie.Need-over-between-requires
+over-between-requires c κs = search (needs, chance-laws)
+
 same-length : tie.Need-same-length
 same-length c = search needs
 
@@ -34,6 +40,15 @@ same-length-4 c = search needs
 returns-2 : tie.Need-returns-2
 returns-2 c = search (needs, chance-laws)
 
+same-length-5 : tie.Need-same-length-5
+same-length-5 c = search needs
+
+same-length-6 : tie.Need-same-length-6
+same-length-6 c = search needs
+
+returns-3 : tie.Need-returns-3
+returns-3 c = search (needs, chance-laws)
+
 pub chance-spec : {M : Type 1} → statement M
 chance-spec =
     tie.close
@@ -42,9 +57,14 @@ chance-spec =
     over-until-requires
     enum-told
     over-next-requires
+    enum-known-path-2
+    over-between-requires
     same-length
     same-length-2
     returns
     same-length-3
     same-length-4
-    returns-2)
+    returns-2
+    same-length-5
+    same-length-6
+    returns-3)

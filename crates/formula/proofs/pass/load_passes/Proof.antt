@@ -12,11 +12,20 @@ light-requires c κs = search needs
 enum-told : tie.Need-enum-told
 enum-told c = search needs
 
+enum-known-path-2 : tie.Need-enum-known-path-2
+enum-known-path-2 c = search needs
+
+phases-light-requires : tie.Need-phases-light-requires
+phases-light-requires c κs = search needs
+
 returns : tie.Need-returns
 returns c = rw (c .before .before .path .given .1) (c .light .ensures)
 
 returns-2 : tie.Need-returns-2
 returns-2 c = search needs
+
+returns-3 : tie.Need-returns-3
+returns-3 c = rw (c .before .before .path2 .given .1) (c .phases-light .ensures _ _)
 
 pub load-passes-spec : {M : Type 1} → statement M
 load-passes-spec =
@@ -25,5 +34,8 @@ load-passes-spec =
     enum-known-path
     light-requires
     enum-told
+    enum-known-path-2
+    phases-light-requires
     returns
-    returns-2)
+    returns-2
+    returns-3)

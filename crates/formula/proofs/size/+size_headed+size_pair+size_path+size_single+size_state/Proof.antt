@@ -4,8 +4,8 @@ use borrow.Author.Needs.{needs}
 use native.Mathlib.Omega.{arith}
 use Prim.Native.Nat.{ℕ, _+_, _*_, _<_}
 use lib.ListN.{length}
-use Rattle.grammar.specs.Tokens.{token-within, one-within, two-within}
-use Rattle.formula.proofs.PairLaw.{single-asks, single-one, pair-wrong, pair-two, pair-asks, path-wrong, path-until, path-next}
+use Rattle.grammar.specs.Tokens.{token-within, one-within, two-within, three-within}
+use Rattle.formula.proofs.PairLaw.{single-asks, single-one, pair-wrong, pair-two, pair-asks, path-wrong, path-until, path-next, path-between}
 use Rattle.formula.proofs.HeadedLaw.{headed-other, headed-truth, headed-name, headed-bang, headed-ampersand, headed-unbound, headed-chance, state-read}
 use borrow.Fn.Kinds.{In}
 use borrow.Fn.PlainCycle.{Measures, is, falls, and}
@@ -29,6 +29,7 @@ use Rattle.formula.proofs.size.over_two.Reads as over-two-reads
 use Rattle.grammar.proofs.read_bound.Reads as read-bound-reads
 use Rattle.grammar.proofs.read_path_start.Reads as read-path-start-reads
 use Rattle.grammar.proofs.after_two.Reads as after-two-reads
+use Rattle.grammar.proofs.after_three.Reads as after-three-reads
 use Rattle.grammar.proofs.read_head.Reads as read-head-reads
 use Rattle.texts.proofs.after.Reads as after-reads
 use Rattle.texts.proofs.part.Reads as part-reads
@@ -124,6 +125,8 @@ calls-size-path t = (
   after-reads.Learnt,
   size-single-below t,
   size-single.Post,
+  after-three-reads.Asked,
+  after-three-reads.Learnt,
 )
 
 abbrev calls-size-single : (t : ℕ) → size-single-lts.Claims
@@ -285,6 +288,15 @@ size-path-after-requires t c κs = search needs
 size-path-size-single-requires : (t : ℕ) → size-path-lts.Need-size-single-requires (calls-size-path t) (size-path-at t) size-path.Post
 size-path-size-single-requires t c κs = (omega (arith, one-within _ _ (c .after .ensures)), tt)
 
+size-path-enum-told-4 : (t : ℕ) → size-path-lts.Need-enum-told-4 (calls-size-path t) (size-path-at t) size-path.Post
+size-path-enum-told-4 t c = search needs
+
+size-path-after-three-requires : (t : ℕ) → size-path-lts.Need-after-three-requires (calls-size-path t) (size-path-at t) size-path.Post
+size-path-after-three-requires t c κs = search needs
+
+size-path-size-pair-requires-2 : (t : ℕ) → size-path-lts.Need-size-pair-requires-2 (calls-size-path t) (size-path-at t) size-path.Post
+size-path-size-pair-requires-2 t c κs = (omega (arith, three-within _ _ (c .after-three .ensures)), tt)
+
 size-path-returns : (t : ℕ) → size-path-lts.Need-returns (calls-size-path t) (size-path-at t) size-path.Post
 size-path-returns t c = path-wrong _ _ (c .before .before .read-path-start .ensures) (c .enum-told .given .1)
 
@@ -297,6 +309,11 @@ size-path-returns-3 : (t : ℕ) → size-path-lts.Need-returns-3 (calls-size-pat
 size-path-returns-3 t c =
     let start = c .before .before .before .before .read-path-start .ensures in
     path-next _ _ start _ _ (c .before .before .enum-told3 .given .1) (c .before .after .ensures) (c .size-single .ensures)
+
+size-path-returns-4 : (t : ℕ) → size-path-lts.Need-returns-4 (calls-size-path t) (size-path-at t) size-path.Post
+size-path-returns-4 t c =
+    let start = c .before .before .before .before .read-path-start .ensures in
+    path-between _ _ start _ _ _ _ (c .before .before .enum-told4 .given .1) (c .before .after-three .ensures) (c .size-pair2 .ensures)
 
 size-single-size-state-requires : (t : ℕ) → size-single-lts.Need-size-state-requires (calls-size-single t) (size-single-at t) size-single.Post
 size-single-size-state-requires t c κs = search needs
@@ -394,6 +411,8 @@ pub +size-headed+size-pair+size-path+size-single+size-state-spec : {M : Type 1} 
       after-reads.Learnt,
       size-single-below t,
       size-single.Post,
+      after-three-reads.Asked,
+      after-three-reads.Learnt,
     )
     (size-path-at t)
     size-path.Post
@@ -405,9 +424,13 @@ pub +size-headed+size-pair+size-path+size-single+size-state-spec : {M : Type 1} 
     (size-path-enum-told-3 t)
     (size-path-after-requires t)
     (size-path-size-single-requires t)
+    (size-path-enum-told-4 t)
+    (size-path-after-three-requires t)
+    (size-path-size-pair-requires-2 t)
     (size-path-returns t)
     (size-path-returns-2 t)
-    (size-path-returns-3 t))
+    (size-path-returns-3 t)
+    (size-path-returns-4 t))
     (λ t. size-single-lts.spec (
       size-state-below t,
       size-state.Post,

@@ -31,8 +31,23 @@ same-requires-2 c κs = search needs
 returns-2 : tie.Need-returns-2
 returns-2 c = search (needs, path-start-laws)
 
+slice-aggregate-same-3 : tie.Need-slice-aggregate-same-3
+slice-aggregate-same-3 c = search needs
+
+same-requires-3 : tie.Need-same-requires-3
+same-requires-3 c κs = search needs
+
+after-requires-2 : tie.Need-after-requires-2
+after-requires-2 c κs = search needs
+
+between-start-requires : tie.Need-between-start-requires
+between-start-requires c κs = search needs
+
 returns-3 : tie.Need-returns-3
 returns-3 c = search (needs, path-start-laws)
+
+returns-4 : tie.Need-returns-4
+returns-4 c = search (needs, path-start-laws)
 
 pub read-path-start-spec : {M : Type 1} → statement M
 read-path-start-spec =
@@ -47,4 +62,9 @@ read-path-start-spec =
     slice-aggregate-same-2
     same-requires-2
     returns-2
-    returns-3)
+    slice-aggregate-same-3
+    same-requires-3
+    after-requires-2
+    between-start-requires
+    returns-3
+    returns-4)

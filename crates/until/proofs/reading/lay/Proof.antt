@@ -1,5 +1,6 @@
 -- `lay` meets its contract. Assumes nothing.
 use borrow.Author.Needs.{needs}
+use mathlib.Core.Path.{refl}
 use native.Mathlib.Omega.{arith}
 use Prim.Native.Nat.{_-_}
 use Rattle.until.proofs.LayLaw.{Inv, lay-laws, turn}
@@ -7,10 +8,13 @@ use Rattle.until.proofs.reading.lay.Statement.{statement}
 use Rattle.until.proofs.reading.lay.Tie as tie
 
 abbrev Inv-loop : tie.InvT-loop
-Inv-loop words₀ first second n q as-yes s₀ words s = Inv words₀ words first second n q as-yes s
+Inv-loop words₀ first second n q as-yes from s₀ words s = Inv words₀ words first second n q as-yes from s
 
 abbrev μ-loop : tie.MeasureT-loop
-μ-loop words₀ first second n q as-yes s₀ words s = n - s
+μ-loop words₀ first second n q as-yes from s₀ words s = n - s
+
+starts-requires : tie.Need-starts-requires Inv-loop μ-loop
+starts-requires c κs = search (needs, lay-laws)
 
 loop-holds : tie.Need-loop-holds Inv-loop μ-loop
 loop-holds c = search (needs, lay-laws)
@@ -27,17 +31,26 @@ shared-slice-read-holds-2 c = search (needs, lay-laws)
 holds-requires-2 : tie.Need-holds-requires-2 Inv-loop μ-loop
 holds-requires-2 c κs = search (needs, lay-laws)
 
-first-value-requires : tie.Need-first-value-requires Inv-loop μ-loop
-first-value-requires c κs = search (needs, lay-laws)
+add-words : tie.Need-add-words Inv-loop μ-loop
+add-words c = search (needs, lay-laws)
 
 mul-words : tie.Need-mul-words Inv-loop μ-loop
 mul-words c = search (needs, lay-laws)
 
-add-words : tie.Need-add-words Inv-loop μ-loop
-add-words c = search (needs, lay-laws)
+slice-read-words : tie.Need-slice-read-words Inv-loop μ-loop
+slice-read-words c = search (needs, lay-laws)
 
 mul-words-2 : tie.Need-mul-words-2 Inv-loop μ-loop
 mul-words-2 c = search (needs, lay-laws)
+
+mul-words-3 : tie.Need-mul-words-3 Inv-loop μ-loop
+mul-words-3 c = search (needs, lay-laws)
+
+add-words-2 : tie.Need-add-words-2 Inv-loop μ-loop
+add-words-2 c = search (needs, lay-laws)
+
+mul-words-4 : tie.Need-mul-words-4 Inv-loop μ-loop
+mul-words-4 c = search (needs, lay-laws)
 
 slice-write-words : tie.Need-slice-write-words Inv-loop μ-loop
 slice-write-words c = search (needs, lay-laws)
@@ -60,14 +73,14 @@ slice-read-stays c = search (needs, lay-laws)
 stays-requires : tie.Need-stays-requires Inv-loop μ-loop
 stays-requires c κs = search (needs, lay-laws)
 
-mul-words-3 : tie.Need-mul-words-3 Inv-loop μ-loop
-mul-words-3 c = search (needs, lay-laws)
+mul-words-5 : tie.Need-mul-words-5 Inv-loop μ-loop
+mul-words-5 c = search (needs, lay-laws)
 
-add-words-2 : tie.Need-add-words-2 Inv-loop μ-loop
-add-words-2 c = search (needs, lay-laws)
+add-words-3 : tie.Need-add-words-3 Inv-loop μ-loop
+add-words-3 c = search (needs, lay-laws)
 
-mul-words-4 : tie.Need-mul-words-4 Inv-loop μ-loop
-mul-words-4 c = search (needs, lay-laws)
+mul-words-6 : tie.Need-mul-words-6 Inv-loop μ-loop
+mul-words-6 c = search (needs, lay-laws)
 
 slice-write-words-2 : tie.Need-slice-write-words-2 Inv-loop μ-loop
 slice-write-words-2 c = search (needs, lay-laws)
@@ -81,11 +94,10 @@ loop-less c = search (needs, lay-laws)
 loop-again : tie.Need-loop-again Inv-loop μ-loop
 loop-again c =
     let held = c .before .before in
-    let value = held .before in
-    let second = value .before in
+    let second = held .before .before in
     let first = second .before .before in
-    turn (first .before .before .before .loop .inv) (omega arith) _ _ _ _ _ (value .first-value .ensures) (second .holds2 .ensures)
-    (first .holds .ensures) (held .is-held .ensures) (c .stays .ensures)
+    turn (first .before .before .before .loop .inv) (omega arith) _ _ _ _ _ refl (second .holds2 .ensures) (first .holds .ensures)
+    (held .is-held .ensures) (c .stays .ensures)
 
 same-length : tie.Need-same-length Inv-loop μ-loop
 same-length c = search (needs, lay-laws)
@@ -99,15 +111,19 @@ lay-spec =
     (tie.spec
     Inv-loop
     μ-loop
+    starts-requires
     loop-holds
     shared-slice-read-holds
     holds-requires
     shared-slice-read-holds-2
     holds-requires-2
-    first-value-requires
-    mul-words
     add-words
+    mul-words
+    slice-read-words
     mul-words-2
+    mul-words-3
+    add-words-2
+    mul-words-4
     slice-write-words
     is-held-requires
     mul-stays
@@ -115,9 +131,9 @@ lay-spec =
     mul-stays-2
     slice-read-stays
     stays-requires
-    mul-words-3
-    add-words-2
-    mul-words-4
+    mul-words-5
+    add-words-3
+    mul-words-6
     slice-write-words-2
     add-s
     loop-less

@@ -1,8 +1,8 @@
--- `read_low` meets its contract. Assumes nothing.
+-- `read` meets its contract. Assumes nothing.
 use borrow.Author.Needs.{needs}
 use Rattle.until.proofs.ReadLaw.{read-laws}
-use Rattle.until.proofs.reading.read_low.Statement.{statement}
-use Rattle.until.proofs.reading.read_low.Tie as tie
+use Rattle.until.proofs.reading.read.Statement.{statement}
+use Rattle.until.proofs.reading.read.Tie as tie
 
 lay-requires : tie.Need-lay-requires
 lay-requires c κs = search (needs, read-laws)
@@ -19,5 +19,5 @@ same-length c = search (needs, read-laws)
 returns : tie.Need-returns
 returns c = search (needs, read-laws)
 
-pub read-low-spec : {M : Type 1} → statement M
-read-low-spec = tie.close (tie.spec lay-requires begin-requires run-requires same-length returns)
+pub read-spec : {M : Type 1} → statement M
+read-spec = tie.close (tie.spec lay-requires begin-requires run-requires same-length returns)
