@@ -11,7 +11,7 @@ use Rattle.csl.specs.Formula.{Comparison, Formula, always, label, negated, both
 use Rattle.csl.specs.Formula.{phasesPass, pathsPass, pathsPassIn}
 use Rattle.csl.specs.Chain.{Chain, topRate, load, depth}
 use Rattle.csl.specs.Phase.{Phase}
-use Rattle.csl.specs.Verdicts.{Verdict, No, Yes, marked, negation, conjunction, judged, least, most}
+use Rattle.csl.specs.Verdicts.{Verdict, No, Yes, marked, negation, conjunction, judged, asNo, asYes, least, most}
 use Rattle.csl.specs.Graph.{UntilPossible, UntilCertain, Enters, EntersOnly, AllDecided, Tells, Ruled}
 use Rattle.csl.specs.Until.{untilPhase}
 use Rattle.csl.specs.Next.{nextLower, nextUpper}
@@ -22,19 +22,21 @@ use Rattle.csl.specs.Report.{Reported, lowerOf as plainLower, upperOf as plainU
 use Rattle.csl.specs.Refusal.{inLoad}
 use Rattle.csl.specs.Laws.NextEnds.{ends-next}
 use Rattle.csl.specs.Laws.BetweenEnds.{until-between}
-use Rattle.csl.specs.Laws.Decided.{allDecided, all-decided, decided-all}
+use Rattle.csl.specs.Laws.Decided.{allDecided, all-decided, decided-all, all-decided-same}
+use Rattle.csl.specs.Laws.Sum.{greatest-cong}
 use Rattle.csl.specs.Laws.Ruled.{tells-itself}
 use Rattle.csl.specs.Laws.Ruling.{ruledVerdict, verdict-ruled}
 use Rattle.csl.specs.Laws.Search.{leadsIn, leads-told}
 use Rattle.csl.specs.Laws.NextGraph.{upper-tells, lower-tells}
 use Rattle.bounds.specs.Unit.{unit}
 use Rattle.bounds.specs.Ends.{end-same}
-use Rattle.bounds.specs.Upper.{left-same}
+use Rattle.bounds.specs.Upper.{upperEnd, left-same}
 use Rattle.bounds.specs.Width.{mostDepth}
-use Rattle.bounds.specs.StepValues.{RoundsFrom, Rounds, StartedRounds, startedPhase, pointed}
+use Rattle.bounds.specs.StepValues.{RoundsFrom, Rounds, StartedRounds, pointed, mostGap, gapOf, earlierGap}
 use Rattle.bounds.specs.Rounded.{roundedFrom, rounded, startedRounded, rounded-from, rounds-same}
 use Rattle.bounds.specs.Reading.{summedLower, summedUpper}
 use Rattle.bounds.specs.UntilEnds.{untilLower, untilUpper, until-ends}
+use Rattle.bounds.specs.TwoPhases.{nearEnd}
 use Rattle.bounds.specs.EarlierEnds.{earlierLower, earlierUpper, earlier-ends}
 
 -- the ends of an until over t hundredths of an hour at each state, where the operands have the verdicts v and w
@@ -55,10 +57,12 @@ module _ (c : Chain) (t : ℕ) (ph : Phase) (x : ℕ → ℕ) (val : ℕ → ℕ
       end-same (topRate c * t) rateHundredths (topRate c * t / rateHundredths) (depth c t) (λ k. val k s) (λ k. roundedFrom c ph x k s)
       (λ k i. rounds-same c ph x val r k s in-range)
 
-  summed-upper-same : summedUpper c t val s ≡ summedUpper c t (roundedFrom c ph x) s
-  summed-upper-same =
+  -- whatever the error of the start is
+  summed-upper-same : (e : ℕ) → upperEnd (topRate c * t) rateHundredths (topRate c * t / rateHundredths) (depth c t) e (λ k. val k s)
+      ≡ upperEnd (topRate c * t) rateHundredths (topRate c * t / rateHundredths) (depth c t) e (λ k. roundedFrom c ph x k s)
+  summed-upper-same e =
       ap (λ (y : ℕ). billion - y)
-      (left-same (topRate c * t) rateHundredths (topRate c * t / rateHundredths) (depth c t) 0 (λ k. val k s) (λ k. roundedFrom c ph x k s)
+      (left-same (topRate c * t) rateHundredths (topRate c * t / rateHundredths) (depth c t) e (λ k. val k s) (λ k. roundedFrom c ph x k s)
       (λ k i. rounds-same c ph x val r k s in-range))
 
 module _ (c : Chain) (t : ℕ) (v w : ℕ → Verdict) (val : ℕ → ℕ → ℕ) (s : ℕ) (in-range : s < c .states) where
@@ -68,7 +72,7 @@ module _ (c : Chain) (t : ℕ) (v w : ℕ → Verdict) (val : ℕ → ℕ → �
 
   pub upper-found : (0 < topRate c * t → Rounds c (untilPhase (most v) (most w)) val) → untilUpper c t v w val s ≡ upperFound c t v w s
   upper-found r =
-      ap (pointed (v s) (w s)) (cond-same (topRate c * t) _ _ _ (eqb (topRate c * t) 0) refl (λ p. summed-upper-same c t _ _ val s in-range (r p)))
+      ap (pointed (v s) (w s)) (cond-same (topRate c * t) _ _ _ (eqb (topRate c * t) 0) refl (λ p. summed-upper-same c t _ _ val s in-range (r p) 0))
 
 pub ends-found : (c : Chain) (t : ℕ) (v w : ℕ → Verdict) → depth c t ≤ mostDepth
     → AtEach c λ s. EndsAt c (untilOf t v w) s (lowerFound c t v w s) (upperFound c t v w s)
@@ -81,7 +85,9 @@ abbrev pub lowerBetween : Chain → (t u : ℕ) → (v w : ℕ → Verdict) → 
 lowerBetween c t u v w = earlierLower c t v (lowerFound c (u - t) v w) (startedRounded c (least v) (lowerFound c (u - t) v w))
 
 abbrev pub upperBetween : Chain → (t u : ℕ) → (v w : ℕ → Verdict) → ℕ → ℕ
-upperBetween c t u v w = earlierUpper c t v (upperFound c (u - t) v w) (startedRounded c (most v) (upperFound c (u - t) v w))
+upperBetween c t u v w =
+    earlierUpper c t v (lowerFound c (u - t) v w) (upperFound c (u - t) v w) (startedRounded c (least v) (lowerFound c (u - t) v w))
+    (startedRounded c (most v) (upperFound c (u - t) v w))
 
 -- values that start from ends that are these at each state
 started-same : (c : Chain) (first : ℕ → Bool) (x y : ℕ → ℕ) (val : ℕ → ℕ → ℕ) → ((i : ℕ) → i < c .states → x i ≡ y i)
@@ -98,12 +104,36 @@ module _ (c : Chain) (t : ℕ) (v : ℕ → Verdict) (x y : ℕ → ℕ) (same :
       ∙ cond-same (topRate c * t) _ _ _ (eqb (topRate c * t) 0) refl
       (λ p. ap (pointed (v s) No) (summed-lower-same c t _ _ val s in-range (started-same c (least v) x y val same (r p))))
 
-  pub earlier-upper-found : (0 < topRate c * t → StartedRounds c (most v) x val)
-      → earlierUpper c t v x val s ≡ earlierUpper c t v y (startedRounded c (most v) y) s
-  earlier-upper-found r =
-      ap (λ (z : ℕ). cond (eqb (topRate c * t) 0) (cond (most v s) z 0) (pointed (v s) No (summedUpper c t val s))) (same s in-range)
+-- and so are starts of both readings as far apart
+pub gap-same : (n : ℕ) (v v' : ℕ → Verdict) (x x' y y' : ℕ → ℕ) → ((i : ℕ) → i < n → v i ≡ v' i) → ((i : ℕ) → i < n → x i ≡ x' i)
+    → ((i : ℕ) → i < n → y i ≡ y' i) → earlierGap n v x y ≡ earlierGap n v' x' y'
+unfolding gapOf
+gap-same n v v' x x' y y' h k m =
+    rw (
+      all-decided-same n v v' h,
+      greatest-cong (λ i. cond (asYes (v i)) (y i) 0 - cond (asNo (v i)) (x i) 0) (λ i. cond (asYes (v' i)) (y' i) 0 - cond (asNo (v' i)) (x' i) 0) n
+          (λ i l. rw (h i l, k i l, m i l) refl),
+    ) refl
+
+module _ (c : Chain) (t : ℕ) (v : ℕ → Verdict) (x x' y y' : ℕ → ℕ) (same : (i : ℕ) → i < c .states → x i ≡ x' i)
+    (same' : (i : ℕ) → i < c .states → y i ≡ y' i) (val high : ℕ → ℕ → ℕ) (s : ℕ) (in-range : s < c .states) where
+  near-same : (g : ℕ) (z : Bool) → StartedRounds c (least v) x val → StartedRounds c (most v) y high
+      → cond z (nearEnd c t g val s) (summedUpper c t high s)
+      ≡ cond z (nearEnd c t g (startedRounded c (least v) x') s) (summedUpper c t (startedRounded c (most v) y') s)
+  near-same g true r r' = summed-upper-same c t _ _ val s in-range (started-same c (least v) x x' val same r) (unit * g)
+  near-same g false r r' = summed-upper-same c t _ _ high s in-range (started-same c (most v) y y' high same' r') 0
+
+  pub earlier-upper-found : (0 < topRate c * t → StartedRounds c (least v) x val) → (0 < topRate c * t → StartedRounds c (most v) y high)
+      → earlierUpper c t v x y val high s ≡ earlierUpper c t v x' y' (startedRounded c (least v) x') (startedRounded c (most v) y') s
+  earlier-upper-found r r' =
+      ap (λ (z : ℕ). cond (eqb (topRate c * t) 0) (cond (most v s) z 0) (pointed (v s) No (nearest (earlierGap (c .states) v x y)))) (same' s in-range)
+      ∙ ap (λ (g : ℕ). cond (eqb (topRate c * t) 0) (cond (most v s) (y' s) 0) (pointed (v s) No (nearest g)))
+      (gap-same (c .states) v v x x' y y' (λ i l. refl) same same')
       ∙ cond-same (topRate c * t) _ _ _ (eqb (topRate c * t) 0) refl
-      (λ p. ap (pointed (v s) No) (summed-upper-same c t _ _ val s in-range (started-same c (most v) x y val same (r p))))
+      (λ p. ap (pointed (v s) No) (near-same _ (leb (earlierGap (c .states) v x' y') mostGap) (r p) (r' p)))
+    where
+      nearest : ℕ → ℕ
+      nearest g = cond (leb g mostGap) (nearEnd c t g val s) (summedUpper c t high s)
 
 -- the ends of a path at each state, where its operands have the verdicts in o; one line for each kind of path
 abbrev pub lowerPath : Chain → PathOf (ℕ → Verdict) → ℕ → ℕ

@@ -2,12 +2,13 @@
 -- the two ends at one state. Assumes nothing.
 use mathlib.Core.Path.{_≡_}
 use mathlib.Core.Bool.{Bool, true, false, cond, not}
-use Prim.Native.Nat.{ℕ, suc, _+_, _*_, _/_, _≤_, _<_}
-use lib.Dec.{eqb}
+use Prim.Native.Nat.{ℕ, suc, _+_, _*_, _-_, _/_, _≤_, _<_}
+use lib.Dec.{leb, eqb}
 use Rattle.csl.specs.Limits.{billion}
-use Rattle.csl.specs.Chain.{Chain, topRate}
+use Rattle.csl.specs.Chain.{Chain, greatest, topRate}
 use Rattle.csl.specs.Phase.{Phase, bit, moved}
 use Rattle.csl.specs.Verdicts.{Verdict, No, Yes, Undecided, asNo, asYes}
+use Rattle.csl.specs.Laws.Decided.{allDecided}
 use Rattle.bounds.specs.Unit.{unit, one}
 use Rattle.bounds.specs.Ends.{lowerEnd}
 use Rattle.bounds.specs.Upper.{upperEnd}
@@ -62,11 +63,28 @@ untilLowerOf a b d v w low = pointed v w (cond (eqb a 0) (billion * bit (asNo w)
 abbrev pub untilUpperOf : (a b d : ℕ) → Verdict → Verdict → (ℕ → ℕ) → ℕ
 untilUpperOf a b d v w high = pointed v w (cond (eqb a 0) (billion * bit (asYes w)) (upperEnd a b (a / b) d 0 high))
 
+-- Starts that are at most so many billionths apart are near enough for one run to serve both ends: half of what the rules allow at the least depth.
+abbrev pub mostGap : ℕ
+mostGap = 80
+
+-- how far apart two starts are at most, on n states; more than that where an operand state is undecided, whatever they are
+unfoldable pub gapOf : (decided : Bool) → (lower upper : ℕ → ℕ) → ℕ → ℕ
+gapOf decided lower upper n = cond decided (greatest (λ s. upper s - lower s) n) (suc mostGap)
+
+-- the upper end, from the values of the lower start where the starts are near, with their gap as its error, else from those of the upper start
+abbrev pub nearUpper : (a b d gap : ℕ) → (low high : ℕ → ℕ) → ℕ
+nearUpper a b d gap low high = cond (leb gap mostGap) (upperEnd a b (a / b) d (unit * gap) low) (upperEnd a b (a / b) d 0 high)
+
 -- The two ends at a state of an until between two times, whose later phase, until over the difference, has the ends lo and up there: v is the
 -- first operand's verdict there, a / b the earlier phase's load, d its depth; low k and high k are its rounded values at step k, started from
--- the later phase's lower ends with undecided operand states read as no, and from its upper ends with them read as yes.
+-- the later phase's lower ends with undecided operand states read as no, and from its upper ends with them read as yes; gap is how far apart the
+-- two starts are.
 abbrev pub earlierLowerOf : (a b d : ℕ) → Verdict → (lo : ℕ) → (ℕ → ℕ) → ℕ
 earlierLowerOf a b d v lo low = cond (eqb a 0) (cond (asNo v) lo 0) (pointed v No (lowerEnd a b (a / b) d low))
 
-abbrev pub earlierUpperOf : (a b d : ℕ) → Verdict → (up : ℕ) → (ℕ → ℕ) → ℕ
-earlierUpperOf a b d v up high = cond (eqb a 0) (cond (asYes v) up 0) (pointed v No (upperEnd a b (a / b) d 0 high))
+abbrev pub earlierUpperOf : (a b d gap : ℕ) → Verdict → (up : ℕ) → (low high : ℕ → ℕ) → ℕ
+earlierUpperOf a b d gap v up low high = cond (eqb a 0) (cond (asYes v) up 0) (pointed v No (nearUpper a b d gap low high))
+
+-- how far apart they are, where the first operand has the verdicts v on n states
+abbrev pub earlierGap : (n : ℕ) → (v : ℕ → Verdict) → (lo up : ℕ → ℕ) → ℕ
+earlierGap n v lo up = gapOf (allDecided n v) (λ s. cond (asNo (v s)) (lo s) 0) (λ s. cond (asYes (v s)) (up s) 0) n

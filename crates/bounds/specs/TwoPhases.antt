@@ -1,15 +1,16 @@
 -- Until between two times: from ANY ends of the later phase that keep until's rules, at every state, the sums over the earlier phase give ends that
--- keep every rule: the lower ones started from the later phase's lower ends, the upper ones from its upper ends. Assumes nothing.
-use mathlib.Core.Path.{_≡_, refl, ap, sym}
+-- keep every rule: the lower ones started from the later phase's lower ends, the upper ones from its upper ends, or, where these are near the lower
+-- ones, from the same run. Assumes nothing.
+use mathlib.Core.Path.{_≡_, refl, ap, sym, _∙_}
 use mathlib.Core.Bool.{Bool, true, false, cond, not}
 use Prim.Native.Nat.{ℕ, suc, _+_, _*_, _-_, _/_, _≤_, _<_}
 use native.Mathlib.Omega.{arith}
 use Rattle.numbers.specs.Hint.{le-times}
-use Rattle.csl.specs.Limits.{billion, rateHundredths}
+use Rattle.csl.specs.Limits.{billion, rateHundredths, widthFactor}
 use Rattle.csl.specs.Formula.{untilOf, betweenOf}
 use Rattle.csl.specs.Fraction.{Fraction, frac, IsFraction, Below, plus, billionths}
 use Rattle.csl.specs.Chain.{Chain, topRate, load, depth}
-use Rattle.csl.specs.Phase.{stepValue, quotient}
+use Rattle.csl.specs.Phase.{moved, stepValue, quotient}
 use Rattle.csl.specs.Verdicts.{Verdict, No, least, most}
 use Rattle.csl.specs.Until.{untilSlack}
 use Rattle.csl.specs.Between.{laterQuotient, earlierPhase, betweenQuotient, betweenSlack}
@@ -20,13 +21,20 @@ use Rattle.csl.specs.Laws.Steps.{Starts, divisor-some}
 use Rattle.csl.specs.Laws.Verdicts.{decided-same}
 use Rattle.csl.specs.Laws.Quotient.{quotient-is, until-is}
 use Rattle.csl.specs.Laws.Between.{until-bottoms}
+use Rattle.csl.specs.Laws.Enclosure.{ordered-ends}
+use Rattle.bounds.specs.Unit.{unit}
 use Rattle.bounds.specs.Ends.{end-most}
+use Rattle.bounds.specs.Upper.{upperEnd}
 use Rattle.bounds.specs.Width.{mostDepth}
-use Rattle.bounds.specs.StepValues.{startedPhase, StartedRounds}
+use Rattle.bounds.specs.StepValues.{settled, Runs, startedPhase, StartedRounds, mostGap}
 use Rattle.bounds.specs.Rounded.{started-run, rounds-most}
 use Rattle.bounds.specs.Shifted.{StartsNear, quotients-near}
 use Rattle.bounds.specs.PhaseEnd.{PhaseEnds, phase-ends}
 use Rattle.bounds.specs.Reading.{factor-some, summedLower, summedUpper}
+
+-- the upper end of a phase at state s, for t hundredths of an hour, from rounded values that start at most so many billionths too low
+abbrev pub nearEnd : Chain → (t gap : ℕ) → (ℕ → ℕ → ℕ) → ℕ → ℕ
+nearEnd c t gap val s = upperEnd (topRate c * t) rateHundredths (topRate c * t / rateHundredths) (depth c t) (unit * gap) (λ k. val k s)
 
 -- where a fraction lies at most e billionths above another
 no-room : (x y : Fraction) → Below x (plus y (billionths 0)) → Below x y
@@ -125,46 +133,23 @@ module _ (c : Chain) (t u : ℕ) (v w : ℕ → Verdict) (lo up : ℕ → ℕ)
   unfolding load
   quotients-to x y b e m n h = quotients-near c rate h (topRate c * suc t) rateHundredths (omega arith) s m in-range
 
-  module _ (val high : ℕ → ℕ → ℕ) (r : StartedRounds c (least v) lo val) (r' : StartedRounds c (most v) up high) where
+  -- an upper end of what starts from the later phase's upper ends, with a number below that too, and how it fits the lower end
+  record HighEnds (lower upper : ℕ) : Type 0 where
+    under : ℕ
+    below : (m : ℕ) → depth c (suc t) ≤ m → Below (billionths under) (startedQuotient (most v) up m)
+    above : (m : ℕ) → depth c (suc t) ≤ m → Below (startedQuotient (most v) up m) (billionths upper)
+    near : upper ≤ under + widthFactor * depth c (suc t)
+    narrow : AllDecided c v → AllDecided c w → upper ≤ lower + betweenSlack c (suc t) u
+    range : upper ≤ billion
+
+  module _ (val : ℕ → ℕ → ℕ) (r : StartedRounds c (least v) lo val) where
     low-ends : StartedEnds (least v) lo (summedLower c (suc t) val s) (summedUpper c (suc t) val s)
     low-ends = started-ends (least v) lo (λ i l. later i l .lower-range) val r
 
-    high-ends : StartedEnds (most v) up (summedLower c (suc t) high s) (summedUpper c (suc t) high s)
-    high-ends = started-ends (most v) up (λ i l. later i l .upper-range) high r'
-
-    -- with nothing undecided the two starts differ by what the later phase's ends do
-    starts-apart : AllDecided c v → AllDecided c w → StartsNear c (startedPhase (most v) up) (startedPhase (least v) lo) (untilSlack c (u - suc t))
-    starts-apart d e =
-        record {
-          some = omega arith;
-          some' = omega arith;
-          ones = λ i. refl;
-          ones' = λ i. refl;
-          nils = λ i l. ap not (sym (decided-same (v i) (d i l)));
-          starts = λ i l. rw (decided-same (v i) (d i l)) (apart (most v i) (up i) (lo i) (untilSlack c (u - suc t)) (later i l .width (d, e)));
-        }
-      where
-        apart : (z : Bool) (a b e : ℕ) → a ≤ b + e → Below (frac (cond z a 0) billion) (plus (frac (cond z b 0) billion) (billionths e))
-        apart true a b e h = omega arith
-        apart false a b e h = omega arith
-
-    narrow : AllDecided c v → AllDecided c w → summedUpper c (suc t) high s ≤ summedLower c (suc t) val s + betweenSlack c (suc t) u
-    unfolding load
-    narrow d e =
-        let m : ℕ = depth c (suc t) in
-        let h : Below (startedQuotient (most v) up m) (plus (startedQuotient (least v) lo m) (billionths (untilSlack c (u - suc t))))
-        = quotients-near c rate (starts-apart d e) (topRate c * suc t) rateHundredths (omega arith) s m in-range in
-        let i : Below (startedQuotient (most v) up m) (billionths (summedUpper c (suc t) val s + untilSlack c (u - suc t)))
-        = above-end _ _ (summedUpper c (suc t) val s) (untilSlack c (u - suc t)) _ (started-is (least v) lo m) h (low-ends .above m (omega arith))
-        (omega arith) in
-        let j : Below (billionths (summedLower c (suc t) high s)) (billionths (summedUpper c (suc t) val s + untilSlack c (u - suc t)))
-        = below-trans (billionths (summedLower c (suc t) high s)) (startedQuotient (most v) up m) _ (started-is (most v) up m)
-        (high-ends .below m (omega arith)) i in
-        omega (arith, j, low-ends .near, high-ends .near)
-
     -- the ends keep every rule
-    pub summed-pairs : (v s ≡ No → ⊥) → EndsAt c (betweenOf (suc t) u v w) s (summedLower c (suc t) val s) (summedUpper c (suc t) high s)
-    summed-pairs possible =
+    pairs : (upper : ℕ) → HighEnds (summedLower c (suc t) val s) upper → (v s ≡ No → ⊥)
+        → EndsAt c (betweenOf (suc t) u v w) s (summedLower c (suc t) val s) upper
+    pairs upper high possible =
         record {
           lower-side = λ m n d e.
               below-trans (billionths (summedLower c (suc t) val s)) (startedQuotient (least v) lo m) _ (started-is (least v) lo m) (low-ends .below m d)
@@ -176,25 +161,105 @@ module _ (c : Chain) (t u : ℕ) (v w : ℕ → Verdict) (lo up : ℕ → ℕ)
               (to-later c (suc t) u (least v) (least w) lo (untilSlack c (u - suc t)) n (λ i l. omega (arith, later i l .lower-near n e))))
               (low-ends .above m d) (omega (arith, low-ends .near));
           upper-side = λ m n d e.
-              above-end _ (startedQuotient (most v) up m) (summedUpper c (suc t) high s) 0 _ (started-is (most v) up m)
+              above-end _ (startedQuotient (most v) up m) upper 0 _ (started-is (most v) up m)
               (quotients-to (most v) (most w) up 0 m n
               (to-later c (suc t) u (most v) (most w) up 0 n (λ i l. room-for-0 _ _ (later i l .upper-side n e))))
-              (high-ends .above m d) (omega arith);
+              (high .above m d) (omega arith);
           upper-near = λ m n d e.
-              below-end (startedQuotient (most v) up m) _ (summedLower c (suc t) high s) (summedUpper c (suc t) high s) (untilSlack c (u - suc t)) _
-              (started-is (most v) up m) (high-ends .below m d)
+              below-end (startedQuotient (most v) up m) _ (high .under) upper (untilSlack c (u - suc t)) _ (started-is (most v) up m) (high .below m d)
               (near-quotients (most v) (most w) up (untilSlack c (u - suc t)) m n
               (from-later c (suc t) u (most v) (most w) up (untilSlack c (u - suc t)) n (λ i l. later i l .upper-near n e)))
-              (omega (arith, high-ends .near));
-          width = λ h. narrow (h .0) (h .1);
+              (omega (arith, high .near));
+          width = λ h. high .narrow (h .0) (h .1);
           lower-range =
               end-most (topRate c * suc t) rateHundredths (topRate c * suc t / rateHundredths) (depth c (suc t)) (λ k. val k s)
               (λ k i. rounds-most c (startedPhase (least v) lo) _ val
               (λ j l. omega (arith, started-small (least v j) (lo j) (later j l .lower-range))) r k s in-range);
-          upper-range = omega arith;
+          upper-range = high .range;
           points = record {
             impossible = λ h. absurd (possible h);
             lower-exact = λ z. absurd (omega (arith, moving, ap (λ (q : ℕ). q * suc t) z));
             upper-exact = λ z. absurd (omega (arith, moving, ap (λ (q : ℕ). q * suc t) z));
           };
         }
+
+    -- two starts that are near, on a first operand that is decided: the one run
+    module _ (gap : ℕ) (small-gap : gap ≤ mostGap) (d : AllDecided c v)
+        (apart : (i : ℕ) → i < c .states → cond (most v i) (up i) 0 ≤ cond (least v i) (lo i) 0 + gap) where
+      in-order : (z : Bool) (a b : ℕ) → a ≤ b → cond z a 0 ≤ cond z b 0
+      in-order true a b h = h
+      in-order false a b h = omega arith
+
+      near-run : Runs c (startedPhase (most v) up) (unit * gap) val
+      near-run =
+          record {
+            below = λ i l. rw (r .start i l, decided-same (v i) (d i l))
+                (omega (arith, in-order (most v i) (lo i) (up i) (ordered-ends c (untilOf (u - suc t) v w) i (lo i) (up i) l (later i l))));
+            near = λ i l. rw (r .start i l) (omega (arith, apart i l));
+            next = λ k i l. r .next k i l ∙ ap (λ (z : Bool). settled false (not z) (moved c (val k) i / topRate c)) (decided-same (v i) (d i l));
+          }
+
+      near-high : HighEnds (summedLower c (suc t) val s) (nearEnd c (suc t) gap val s)
+      unfolding load depth
+      near-high =
+          let p : PhaseEnds c (startedPhase (most v) up) (topRate c * suc t) rateHundredths (unit * gap) s (summedLower c (suc t) val s) (nearEnd c (suc t) gap val s)
+          = phase-ends (topRate c * suc t) rateHundredths moving (omega arith) c (startedPhase (most v) up) rate (omega arith)
+          (λ i l. started-small (most v i) (up i) (later i l .upper-range)) near-run s in-range small in
+          record {
+            under = summedLower c (suc t) val s;
+            below = p .below;
+            above = p .above;
+            near = omega (arith, p .near);
+            narrow = λ i j. omega (arith, p .near);
+            range = omega arith;
+          }
+
+      pub near-pairs : (v s ≡ No → ⊥) → EndsAt c (betweenOf (suc t) u v w) s (summedLower c (suc t) val s) (nearEnd c (suc t) gap val s)
+      near-pairs = pairs (nearEnd c (suc t) gap val s) near-high
+
+    -- any two starts: a run of its own
+    module _ (high : ℕ → ℕ → ℕ) (r' : StartedRounds c (most v) up high) where
+      high-ends : StartedEnds (most v) up (summedLower c (suc t) high s) (summedUpper c (suc t) high s)
+      high-ends = started-ends (most v) up (λ i l. later i l .upper-range) high r'
+
+      -- with nothing undecided the two starts differ by what the later phase's ends do
+      starts-apart : AllDecided c v → AllDecided c w → StartsNear c (startedPhase (most v) up) (startedPhase (least v) lo) (untilSlack c (u - suc t))
+      starts-apart d e =
+          record {
+            some = omega arith;
+            some' = omega arith;
+            ones = λ i. refl;
+            ones' = λ i. refl;
+            nils = λ i l. ap not (sym (decided-same (v i) (d i l)));
+            starts = λ i l. rw (decided-same (v i) (d i l)) (apart (most v i) (up i) (lo i) (untilSlack c (u - suc t)) (later i l .width (d, e)));
+          }
+        where
+          apart : (z : Bool) (a b e : ℕ) → a ≤ b + e → Below (frac (cond z a 0) billion) (plus (frac (cond z b 0) billion) (billionths e))
+          apart true a b e h = omega arith
+          apart false a b e h = omega arith
+
+      narrow : AllDecided c v → AllDecided c w → summedUpper c (suc t) high s ≤ summedLower c (suc t) val s + betweenSlack c (suc t) u
+      unfolding load
+      narrow d e =
+          let m : ℕ = depth c (suc t) in
+          let h : Below (startedQuotient (most v) up m) (plus (startedQuotient (least v) lo m) (billionths (untilSlack c (u - suc t))))
+          = quotients-near c rate (starts-apart d e) (topRate c * suc t) rateHundredths (omega arith) s m in-range in
+          let i : Below (startedQuotient (most v) up m) (billionths (summedUpper c (suc t) val s + untilSlack c (u - suc t)))
+          = above-end _ _ (summedUpper c (suc t) val s) (untilSlack c (u - suc t)) _ (started-is (least v) lo m) h (low-ends .above m (omega arith))
+          (omega arith) in
+          let j : Below (billionths (summedLower c (suc t) high s)) (billionths (summedUpper c (suc t) val s + untilSlack c (u - suc t)))
+          = below-trans (billionths (summedLower c (suc t) high s)) (startedQuotient (most v) up m) _ (started-is (most v) up m)
+          (high-ends .below m (omega arith)) i in
+          omega (arith, j, low-ends .near, high-ends .near)
+
+      pub summed-pairs : (v s ≡ No → ⊥) → EndsAt c (betweenOf (suc t) u v w) s (summedLower c (suc t) val s) (summedUpper c (suc t) high s)
+      summed-pairs =
+          pairs (summedUpper c (suc t) high s)
+          (record {
+            under = summedLower c (suc t) high s;
+            below = high-ends .below;
+            above = high-ends .above;
+            near = omega (arith, high-ends .near);
+            narrow = narrow;
+            range = omega arith;
+          })

@@ -1,6 +1,6 @@
 -- The report of a `P` over an until between two times: the ends that the earlier phase leaves, from those of the later one, are those of the verdicts
 -- in its two rows, and the row is judged by them. Assumes nothing.
-use mathlib.Core.Path.{_≡_, refl, ap, _∙_}
+use mathlib.Core.Path.{_≡_, refl, ap, sym, _∙_}
 use mathlib.Core.Bool.{Bool, true, false, cond, not}
 use mathlib.Core.List.{List}
 use Prim.Native.Nat.{ℕ, _+_, _*_, _-_, _/_, _≤_, _<_}
@@ -15,8 +15,8 @@ use Rattle.csl.specs.Lent.{verdictByte}
 use Rattle.numbers.specs.Filled.{at, Filled, Table, filled-as}
 use Rattle.numbers.specs.Part.{rest, rest-at, rest-length}
 use Rattle.bounds.specs.Unit.{unit}
-use Rattle.bounds.specs.StepValues.{settled, StartedRounds}
-use Rattle.bounds.specs.Found.{lowerFound, upperFound, lowerBetween, upperBetween, earlier-lower-found, earlier-upper-found}
+use Rattle.bounds.specs.StepValues.{settled, StartedRounds, earlierGap}
+use Rattle.bounds.specs.Found.{lowerFound, upperFound, lowerBetween, upperBetween, earlier-lower-found, gap-same, earlier-upper-found}
 use Rattle.bounds.specs.Found.{pair-lower, pair-upper, pair-range, pair-verdict, pair-depth}
 use Rattle.verdicts.specs.Byte.{verdictAt}
 use Rattle.vectors.specs.Places.{EndsStored}
@@ -77,23 +77,37 @@ module _ {mv l l₁ marks m₁ : List ℕ} {n q t u p e : ℕ} (a : TwoPhasesAsk
     first-is : (s : ℕ) → s < n → verdicts m₁ s ≡ v s
     first-is s b = ap verdictAt (z .before s b) ∙ h s b
 
+    -- the values of the two runs
+    low-run : StartedRounds (a .c) (least v) (at l₁) (startedValue mv q (λ i. readAs false (verdicts m₁ i)) (at l₁))
+    low-run =
+        started-as (a .c) (λ i. readAs false (verdicts m₁ i)) (least v) (at l₁) _ (λ i m. ap (readAs false) (first-is i (here i m)))
+        (started-rounds (a .shows) (a .prepared .rates .top) (λ i. readAs false (verdicts m₁ i)) (at l₁))
+
+    high-run : StartedRounds (a .c) (most v) (λ i. at l₁ (n + i)) (startedValue mv q (λ i. readAs true (verdicts m₁ i)) (λ i. at l₁ (n + i)))
+    high-run =
+        started-as (a .c) (λ i. readAs true (verdicts m₁ i)) (most v) (λ i. at l₁ (n + i)) _ (λ i m. ap (readAs true) (first-is i (here i m)))
+        (started-rounds (a .shows) (a .prepared .rates .top) (λ i. readAs true (verdicts m₁ i)) (λ i. at l₁ (n + i)))
+
+    gap-is : earlierGap n (verdicts m₁) (at l₁) (λ i. at l₁ (n + i)) ≡ earlierGap (a .c .states) v (at l₁) (λ i. at l₁ (n + i))
+    gap-is =
+        gap-same n (verdicts m₁) v (at l₁) (at l₁) (λ i. at l₁ (n + i)) (λ i. at l₁ (n + i)) first-is (λ i m. refl) (λ i m. refl)
+        ∙ ap (λ (k : ℕ). earlierGap k v (at l₁) (λ i. at l₁ (n + i))) (sym (a .shows .states))
+
     low-is : (s : ℕ) → s < n → at l₂ s ≡ lowerBetween (a .c) t u v w s
     low-is s b =
         earlier-lower-shown (a .shows) (a .prepared .rates .top) y s b
         ∙ rw (first-is s b)
         (earlier-lower-found (a .c) t v (at l₁) (lowerFound (a .c) (u - t) v w) (λ i m. lower-is later x v w h k i (here i m))
-        (startedValue mv q (λ i. readAs false (verdicts m₁ i)) (at l₁)) s (there s b)
-        (λ o. started-as (a .c) (λ i. readAs false (verdicts m₁ i)) (least v) (at l₁) _ (λ i m. ap (readAs false) (first-is i (here i m)))
-        (started-rounds (a .shows) (a .prepared .rates .top) (λ i. readAs false (verdicts m₁ i)) (at l₁))))
+        (startedValue mv q (λ i. readAs false (verdicts m₁ i)) (at l₁)) s (there s b) (λ o. low-run))
 
     high-is : (s : ℕ) → s < n → at l₂ (n + s) ≡ upperBetween (a .c) t u v w s
     high-is s b =
         earlier-upper-shown (a .shows) (a .prepared .rates .top) y s b
-        ∙ rw (first-is s b)
-        (earlier-upper-found (a .c) t v (λ i. at l₁ (n + i)) (upperFound (a .c) (u - t) v w) (λ i m. upper-is later x v w h k i (here i m))
-        (startedValue mv q (λ i. readAs true (verdicts m₁ i)) (λ i. at l₁ (n + i))) s (there s b)
-        (λ o. started-as (a .c) (λ i. readAs true (verdicts m₁ i)) (most v) (λ i. at l₁ (n + i)) _ (λ i m. ap (readAs true) (first-is i (here i m)))
-        (started-rounds (a .shows) (a .prepared .rates .top) (λ i. readAs true (verdicts m₁ i)) (λ i. at l₁ (n + i)))))
+        ∙ rw (gap-is, first-is s b)
+        (earlier-upper-found (a .c) t v (at l₁) (lowerFound (a .c) (u - t) v w) (λ i. at l₁ (n + i)) (upperFound (a .c) (u - t) v w)
+        (λ i m. lower-is later x v w h k i (here i m)) (λ i m. upper-is later x v w h k i (here i m))
+        (startedValue mv q (λ i. readAs false (verdicts m₁ i)) (at l₁))
+        (startedValue mv q (λ i. readAs true (verdicts m₁ i)) (λ i. at l₁ (n + i))) s (there s b) (λ o. low-run) (λ o. high-run))
 
     pub pair-ends : EndsStored (lowerBetween (a .c) t u v w) (upperBetween (a .c) t u v w) n l l₂
     pair-ends = ends-over (x .ends) (record { same = y .ends .same; lowers = low-is; uppers = high-is; after = y .ends .after })

@@ -72,8 +72,9 @@ fn over_two_phases(
     ensures { λ r. ⌜ ((a : TwoPhasesAsked (now (moves .entry)) (now (vectors .entry)) (now (marks .entry)) n q from to threshold)
         → TwoPhasesLeaves a (comparisonOf comparison) (now (vectors .exit)) (now (marks .exit)) r) ⌝ }
 {
+    let rest = to - from;
     let rows = &marks[..];
-    let later = until::until(moves, vectors, rows, &rows[n..], n, q, to - from);
+    let later = until::until(moves, vectors, rows, &rows[n..], n, q, rest);
     clear_second(marks, n);
     let first = &marks[..];
     let earlier = until::earlier(moves, vectors, first, &first[n..], n, q, from);

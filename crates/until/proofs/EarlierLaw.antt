@@ -1,18 +1,21 @@
 -- The phase before an until starts from the until's ends, where its first operand holds. Assumes nothing.
 use mathlib.Core.Path.{_≡_, refl, ap, _∙_}
-use mathlib.Core.Bool.{Bool, true, false, cond, not, _||_}
+use mathlib.Core.Bool.{Bool, true, false, cond, not, _||_, and-true}
 use mathlib.Core.List.{List}
-use Prim.Native.Nat.{ℕ, _*_, _≤_, _<_}
+use Prim.Native.Nat.{ℕ, _+_, _*_, _≤_, _<_}
 use native.Mathlib.Omega.{arith}
 use lib.Dec.{eqb}
 use Rattle.csl.specs.Limits.{billion}
 use Rattle.csl.specs.Verdicts.{No}
+use Rattle.csl.specs.Laws.Decided.{allDecided, decided-all}
 use Rattle.bounds.specs.Unit.{unit}
-use Rattle.bounds.specs.StepValues.{verdictAt, pointed, startedPhase}
+use Rattle.bounds.specs.StepValues.{verdictAt, pointed, startedPhase, earlierGap}
+use Rattle.vectors.specs.Places.{at}
 use Rattle.phase.specs.Load.{loadDepth}
 use Rattle.phase.specs.Value.{heldOf}
 use Rattle.until.specs.Reading.{verdicts, readAs, endOf}
-use Rattle.until.specs.Asked.{RowAsked, Restricted, endBy, PhaseAsked, phaseEnd, Phased, EarlierAsked, startedValue, Earlier}
+use Rattle.until.specs.Asked.{RowAsked, Restricted, startGap, endBy, PhaseAsked, phaseEnd, Phased, EarlierAsked, startedValue, Earlier}
+use Rattle.until.proofs.GapLaw.{gap-same}
 use Rattle.until.proofs.FromLaw.{end-from, by-load}
 use Rattle.until.proofs.PhaseLaw.{may-write, may-start}
 
@@ -49,17 +52,27 @@ module _ {mv l first none : List ℕ} {n q t : ℕ} (p : EarlierAsked mv l first
         may-start (p .prepared) (p .load) (p .in-first) (p .in-none) s
         (λ b g h. rw (end-is b g h) (kept-small (readAs b (verdicts first g)) (endOf b l n g) (was-small b g h)))
 
+    -- a row without a goal is decided
+    gap-is : startGap x first none n ≡ earlierGap n (verdicts first) (at l) (λ i. at l (n + i))
+    gap-is =
+        gap-same _ _ _ _ _ _ n
+        (rw (decided-all n (verdicts none) (λ i h. rw (none-is i h) tt), and-true (allDecided n (verdicts first))) refl)
+        (end-is false) (end-is true)
+
     -- one end of the phase is that of the phase that starts from the until's
     earlier-end : (b : Bool) (g : ℕ) → g < n
         → phaseEnd mv first none x n q (q * t) b g
         ≡ cond (eqb (q * t) 0) (cond (readAs b (verdicts first g)) (endOf b l n g) 0)
         (pointed (verdicts first g) No
-        (endBy b (q * t) (loadDepth (q * t)) (λ k. startedValue mv q (λ i. readAs b (verdicts first i)) (endOf b l n) k g)))
+        (endBy b (q * t) (loadDepth (q * t)) (earlierGap n (verdicts first) (at l) (λ i. at l (n + i)))
+        (λ k. startedValue mv q (λ i. readAs false (verdicts first i)) (at l) k g)
+        (λ k. startedValue mv q (λ i. readAs true (verdicts first i)) (λ i. at l (n + i)) k g)))
     earlier-end b g h =
         by-load (eqb (q * t) 0) (λ z. z) (end-is b g h)
-        (end-from mv first none x n q (q * t) (loadDepth (q * t)) (p .prepared .rates .lines .targets) b _
-        (heldOf (startedPhase (λ i. readAs b (verdicts first i)) (endOf b l n))) (λ i k. ap (λ (z : ℕ). unit * z) (end-is b i k))
-        (λ i k. rw (none-is i k) (held-first b (readAs b (verdicts first i)))) g h
+        (end-from mv first none x n q (q * t) (loadDepth (q * t)) _ (p .prepared .rates .lines .targets)
+        (λ c i. unit * cond (readAs c (verdicts first i)) (endOf c l n i) 0)
+        (λ c. heldOf (startedPhase (λ i. readAs c (verdicts first i)) (endOf c l n))) gap-is (λ c i k. ap (λ (z : ℕ). unit * z) (end-is c i k))
+        (λ c i k. rw (none-is i k) (held-first c (readAs c (verdicts first i)))) b g h
         ∙ rw (none-is g h) refl)
 
     pub is-earlier : {y : List ℕ} {r : ℕ} → Phased mv first none n q t x y r → Earlier mv first n q t l y r

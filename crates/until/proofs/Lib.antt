@@ -3,7 +3,7 @@ pub mod HeldLaw
 pub mod LayLaw
 pub mod RunLaw
 pub mod ReadLaw
-pub mod AlikeLaw
+pub mod GapLaw
 pub mod PointLaw
 pub mod StillLaw
 pub mod RestrictLaw

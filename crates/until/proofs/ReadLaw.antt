@@ -7,9 +7,10 @@ use native.Mathlib.Omega.{arith}
 use native.Mathlib.Nat.{add-zero}
 use lib.Dec.{ltb}
 use lib.ListN.{length}
-use borrow.Author.Tests.{lt-ltb, le-ltb}
+use borrow.Author.Tests.{lt-ltb, le-ltb, le-leb, lt-leb}
 use Rattle.numbers.specs.Sum.{sum-cong}
 use Rattle.bounds.specs.Unit.{unit, one, part}
+use Rattle.bounds.specs.StepValues.{mostGap}
 use Rattle.rate_matrix.specs.Words.{exitOf}
 use Rattle.vectors.specs.Places.{at, weightsFrom, valueAt, nextAt, stayAt, heldAt, exitAt, weightAt}
 use Rattle.vectors.specs.Prepared.{rates-kept, rates-slow, rates-small}
@@ -18,7 +19,7 @@ use Rattle.phase.specs.Bound.{run-cong}
 use Rattle.phase.specs.Steps.{BeginAsked, Begun}
 use Rattle.until.specs.Reading.{readPhase, endOf, valueFrom}
 use Rattle.until.specs.Run.{RunAsked, runAt, Ran}
-use Rattle.until.specs.Asked.{LayAsked, Laid, ReadAsked, Read, HighAsked}
+use Rattle.until.specs.Asked.{LayAsked, Laid, ReadAsked, Read, ReadUnless}
 
 -- what stays put says whether a value is held
 stay-held : (q e : ℕ) (b : Bool) → ltb q (stayOf q e b) ≡ b
@@ -108,12 +109,12 @@ module _ {mv l first second : List ℕ} {n q last : ℕ} (p : ReadAsked mv l fir
 
 pub ruleset read-laws = (may-lay, may-begin, may-run, is-read)
 
--- sums that stand there are read
-module _ {mv l first second : List ℕ} {n q last : ℕ} {there : Bool} (p : HighAsked mv l first second n q last there) where
-  pub is-there : there ≡ true → Read mv first second n q last true l l
-  is-there t = record { same = refl; sums = p .sums t; before = λ k h. refl; after = λ k h c. refl }
+-- sums that stand there stay, or are read
+module _ {mv l first second : List ℕ} {n q last : ℕ} (p : ReadAsked mv l first second n q last) (gap : ℕ) where
+  pub is-there : gap ≤ mostGap → ReadUnless mv first second n q last gap l l
+  is-there h = record { same = refl; sums = λ s d. rw (le-leb _ _ h) refl; before = λ k d. refl; after = λ k d c. refl }
 
-  pub may-read : ReadAsked mv l first second n q last
-  may-read = p .asked
+  pub is-high : {z : List ℕ} → mostGap < gap → Read mv first second n q last true l z → ReadUnless mv first second n q last gap l z
+  is-high h r = record { same = r .same; sums = λ s d. r .sums s d ∙ rw (lt-leb _ _ h) refl; before = r .before; after = r .after }
 
-pub ruleset high-laws = (is-there, may-read)
+pub ruleset high-laws = (is-there, is-high)

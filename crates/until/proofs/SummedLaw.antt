@@ -20,7 +20,8 @@ use Rattle.phase.specs.Value.{heldOf}
 use Rattle.phase.specs.Load.{Weighed, LightAsked}
 use Rattle.phase.specs.Sums.{sum-gathered, whole-gatherable}
 use Rattle.until.specs.Reading.{readPhase, endOf, valueFrom}
-use Rattle.until.specs.Asked.{BothAsked, Both, SummedAsked, summedEnd, Summed}
+use Rattle.until.specs.Asked.{startGap, BothAsked, Both, SummedAsked, summedEnd, Summed}
+use Rattle.until.proofs.GapLaw.{gap-same}
 use Rattle.until.proofs.FromLaw.{end-from}
 
 module _ {mv l first second : List ℕ} {n q a depth : ℕ} (p : SummedAsked mv l first second n q a depth) where
@@ -122,9 +123,10 @@ module _ {mv l first second : List ℕ} {n q a depth : ℕ} (p : SummedAsked mv 
               columns false e = rates (ltb k (weightsFrom n)) refl (ltb-false k (6 * n) e)
 
           end-same : (b : Bool) (s : ℕ) → s < n → summedEnd mv first second w n q a depth b s ≡ summedEnd mv first second l n q a depth b s
-          end-same b =
-              end-from mv first second w n q a depth (p .prepared .rates .lines .targets) b (λ g. unit * endOf b l n g)
-              (heldOf (readPhase b first second)) (λ g h. ap (λ (x : ℕ). unit * x) (end-was b g h)) (λ g h. refl)
+          end-same =
+              end-from mv first second w n q a depth (startGap l first second n) (p .prepared .rates .lines .targets) (λ b g. unit * endOf b l n g)
+              (λ b. heldOf (readPhase b first second)) (gap-same _ _ _ _ _ _ n refl (end-was false) (end-was true))
+              (λ b g h. ap (λ (x : ℕ). unit * x) (end-was b g h)) (λ b g h. refl)
 
           pub is-summed : Summed mv first second n q a depth l y
           unfolding lowerEnd leftEnd
@@ -136,7 +138,9 @@ module _ {mv l first second : List ℕ} {n q a depth : ℕ} (p : SummedAsked mv 
                     (end-same false s h);
                 uppers = λ s h. c .ends (n + s) (omega arith) ∙ f .uppers s h
                     ∙ rw (
+                      sum-gathered w n a last through (λ k. valueFrom mv first second w n q false k s),
                       sum-gathered w n a last through (λ k. valueFrom mv first second w n q true k s),
+                      whole-gatherable w n a last through (unit * startGap w first second n),
                       whole-gatherable w n a last through 0,
                       u .total,
                       made,

@@ -1,22 +1,25 @@
 -- Until is the phase that starts from the ends that its second operand's verdicts stand for. Assumes nothing.
-use mathlib.Core.Path.{_≡_, refl, _∙_}
+use mathlib.Core.Path.{_≡_, refl, sym, _∙_}
 use mathlib.Core.Bool.{Bool, true, false, cond}
 use mathlib.Core.List.{List}
 use Prim.Native.Nat.{ℕ, _*_, _<_}
 use native.Mathlib.Omega.{arith}
-use lib.Dec.{eqb}
+use lib.Dec.{leb, eqb}
 use lib.ListN.{length}
 use Rattle.csl.specs.Limits.{billion}
 use Rattle.csl.specs.Phase.{bit}
 use Rattle.csl.specs.Report as report
 use Rattle.csl.specs.Verdicts.{Verdict, No, Yes, Undecided, asNo, asYes}
+use Rattle.csl.specs.Laws.Verdicts.{decided-same}
 use Rattle.bounds.specs.Reading.{bit-most}
-use Rattle.bounds.specs.StepValues.{pointed}
+use Rattle.bounds.specs.StepValues.{mostGap, pointed}
 use Rattle.phase.specs.Load.{loadDepth}
 use Rattle.phase.specs.Value.{heldOf, startOf, valueOf}
-use Rattle.until.specs.Reading.{verdicts, readAs, readPhase, endOf}
-use Rattle.until.specs.Asked.{RowAsked, Still, endBy, PhaseAsked, phaseEnd, Phased, UntilAsked, Until}
-use Rattle.until.proofs.FromLaw.{end-from, by-load}
+use Rattle.phase.specs.Bound.{run-cong}
+use Rattle.until.specs.Reading.{verdicts, readAs, readPhase, lowPhase, highPhase, endOf}
+use Rattle.until.specs.Asked.{RowAsked, Still, startGap, endBy, PhaseAsked, phaseEnd, Phased, UntilAsked, Until}
+use Rattle.until.proofs.GapLaw.{first-decided, second-decided, near-none}
+use Rattle.until.proofs.FromLaw.{end-from, near-same, by-load}
 use Rattle.until.proofs.PhaseLaw.{may-write, may-start}
 
 -- the ends that a verdict stands for
@@ -58,11 +61,29 @@ module _ {mv l first second : List ℕ} {n q t : ℕ} (p : UntilAsked mv l first
         → phaseEnd mv first second x n q (q * t) b g
         ≡ pointed (verdicts first g) (verdicts second g)
         (cond (eqb (q * t) 0) (billion * bit (readAs b (verdicts second g)))
-        (endBy b (q * t) (loadDepth (q * t)) (λ k. valueOf mv (length mv) q (readPhase b first second) k g)))
+        (endBy b (q * t) (loadDepth (q * t)) (startGap x first second n) (λ k. valueOf mv (length mv) q (lowPhase first second) k g)
+        (λ k. valueOf mv (length mv) q (highPhase first second) k g)))
     until-end b g h =
         by-load (eqb (q * t) 0) (pointed (verdicts first g) (verdicts second g)) (end-is b g h ∙ bit-left b (verdicts first g) (verdicts second g))
-        (end-from mv first second x n q (q * t) (loadDepth (q * t)) (p .prepared .rates .lines .targets) b (startOf (readPhase b first second))
-        (heldOf (readPhase b first second)) (λ i k. omega (arith, end-is b i k)) (λ i k. refl) g h)
+        (end-from mv first second x n q (q * t) (loadDepth (q * t)) (startGap x first second n) (p .prepared .rates .lines .targets)
+        (λ c. startOf (readPhase c first second)) (λ c. heldOf (readPhase c first second)) refl (λ c i k. omega (arith, end-is c i k)) (λ c i k. refl)
+        b g h)
+
+    -- starts that are near are the same
+    module _ (e : leb (startGap x first second n) mostGap ≡ true) where
+      first-same : (i : ℕ) → i < n → asNo (verdicts first i) ≡ asYes (verdicts first i)
+      first-same i h = decided-same (verdicts first i) (first-decided x first second n e i h)
+
+      second-same : (i : ℕ) → i < n → asNo (verdicts second i) ≡ asYes (verdicts second i)
+      second-same i h = decided-same (verdicts second i) (second-decided x first second n e i h)
+
+      no-gap : startGap x first second n ≡ 0
+      no-gap = near-none x first second n e (λ i h. end-is false i h ∙ rw (second-same i h) (sym (end-is true i h)))
+
+      values-same : (k g : ℕ) → g < n → valueOf mv (length mv) q (lowPhase first second) k g ≡ valueOf mv (length mv) q (highPhase first second) k g
+      values-same =
+          run-cong mv (length mv) n q (p .prepared .rates .lines .targets) _ _ _ _ (λ i h. rw (second-same i h) refl)
+          (λ i h. rw (first-same i h, second-same i h) refl)
 
     pub is-until : {y : List ℕ} {r : ℕ} → Phased mv first second n q t x y r → Until mv first second n q t l y r
     is-until u =
@@ -71,7 +92,8 @@ module _ {mv l first second : List ℕ} {n q t : ℕ} (p : UntilAsked mv l first
           ends = record {
             same = u .ends .same ∙ s .same;
             lowers = λ g h. u .ends .lowers g h ∙ until-end false g h;
-            uppers = λ g h. u .ends .uppers g h ∙ until-end true g h;
+            uppers = λ g h. u .ends .uppers g h ∙ until-end true g h
+                ∙ rw (near-same (q * t) (loadDepth (q * t)) (startGap x first second n) _ _ (λ e. (no-gap e, λ k. values-same e k g h))) refl;
             after = λ k h. u .ends .after k h ∙ s .after k h;
           };
         }

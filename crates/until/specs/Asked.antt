@@ -2,17 +2,17 @@
 use mathlib.Core.Path.{_≡_}
 use mathlib.Core.Bool.{Bool, true, false, cond, _&&_}
 use mathlib.Core.List.{List}
-use Prim.Native.Nat.{ℕ, zero, suc, _+_, _*_, _/_, _^_, _≤_, _<_}
+use Prim.Native.Nat.{ℕ, _+_, _*_, _/_, _^_, _≤_, _<_}
 use lib.ListN.{length}
 use lib.Dec.{leb, eqb}
 use Rattle.csl.specs.Limits.{billion, mostStates, mostRate, rateHundredths}
 use Rattle.csl.specs.Chain.{sumTo}
 use Rattle.csl.specs.Report as report
+use Rattle.csl.specs.Laws.Decided.{allDecided}
 use Rattle.bounds.specs.Weight.{peak}
 use Rattle.bounds.specs.Unit.{unit, one, scale, grain, part}
 use Rattle.bounds.specs.Ends.{lowerEnd}
-use Rattle.bounds.specs.Upper.{upperEnd}
-use Rattle.bounds.specs.StepValues.{pointed, untilLowerOf, untilUpperOf, startedPhase, earlierLowerOf, earlierUpperOf}
+use Rattle.bounds.specs.StepValues.{pointed, untilLowerOf, untilUpperOf, mostGap, gapOf, nearUpper, startedPhase, earlierLowerOf, earlierUpperOf, earlierGap}
 use Rattle.weights.specs.Asked.{mostSteps}
 use Rattle.vectors.specs.Places.{at, valuesFrom, nextFrom, sumsFrom, staysFrom, exitsFrom, weightsFrom, totalAt, numberAt, vectorLength, nextAt, sumAt, stayAt, exitAt, weightAt, totalIn, EndsStored}
 use Rattle.vectors.specs.Prepared.{Rates, Prepared}
@@ -55,13 +55,13 @@ Pointed first second n old new =
     EndsStored (λ s. pointed (verdicts first s) (verdicts second s) (at old s)) (λ s. pointed (verdicts first s) (verdicts second s) (at old (n + s))) n
     old new
 
--- no byte of either row is undecided at state s, and its two ends are the same; at each of the first s states
-abbrev pub alikeAt : (l first second : List ℕ) (n : ℕ) → ℕ → Bool
-alikeAt l first second n s = leb (at first s) 1 && leb (at second s) 1 && eqb (at l s) (at l (n + s))
+-- how far apart the two ends are at most; more than is near where a byte of either row is undecided
+abbrev pub startGap : (l first second : List ℕ) (n : ℕ) → ℕ
+startGap l first second n = gapOf (allDecided n (verdicts first) && allDecided n (verdicts second)) (at l) (λ s. at l (n + s)) n
 
-unfoldable pub allAlike : (l first second : List ℕ) (n : ℕ) → ℕ → Bool
-allAlike l first second n zero = true
-allAlike l first second n (suc s) = allAlike l first second n s && alikeAt l first second n s
+-- what values of the lower start may lack, in units, where they serve both ends
+abbrev pub errorOf : ℕ → ℕ
+errorOf gap = cond (leb gap mostGap) (unit * gap) 0
 
 -- the start vector of a phase, from the ends, and what stays put, to be written
 pub record LayAsked (l first second : List ℕ) (n q : ℕ) : Type 0 where
@@ -91,17 +91,20 @@ pub record ReadAsked (mv l first second : List ℕ) (n q last : ℕ) : Type 0 wh
   pub room : weightsFrom n + last < totalAt n
   pub weights : (k : ℕ) → k ≤ last → weightAt l n k ≤ peak
 
--- they stand in their column; the ends, and all from the exit rates on but the step number, are as they were
-pub record Read (mv first second : List ℕ) (n q last : ℕ) (b : Bool) (l₀ l : List ℕ) : Type 0 where
+-- sums stand in their column; the ends, and all from the exit rates on but the step number, are as they were
+pub record SumsStored (sum : ℕ → ℕ) (n : ℕ) (l₀ l : List ℕ) : Type 0 where
   pub same : length l ≡ length l₀
-  pub sums : (s : ℕ) → s < n → sumAt l n s ≡ sumFrom mv first second l₀ n q last b s
+  pub sums : (s : ℕ) → s < n → sumAt l n s ≡ sum s
   pub before : (k : ℕ) → k < valuesFrom n → at l k ≡ at l₀ k
   pub after : (k : ℕ) → exitsFrom n ≤ k → (k ≡ numberAt n → ⊥) → at l k ≡ at l₀ k
 
--- those with undecided read as yes are, unless they are there
-pub record HighAsked (mv l first second : List ℕ) (n q last : ℕ) (there : Bool) : Type 0 where
-  pub asked : ReadAsked mv l first second n q last
-  pub sums : there ≡ true → (s : ℕ) → s < n → sumAt l n s ≡ sumFrom mv first second l n q last true s
+-- those of a reading; those with undecided read as yes, unless the starts are near
+abbrev pub Read : (mv first second : List ℕ) (n q last : ℕ) (b : Bool) → (l₀ l : List ℕ) → Type 0
+Read mv first second n q last b l₀ l = SumsStored (sumFrom mv first second l₀ n q last b) n l₀ l
+
+abbrev pub ReadUnless : (mv first second : List ℕ) (n q last gap : ℕ) → (l₀ l : List ℕ) → Type 0
+ReadUnless mv first second n q last gap l₀ l =
+    SumsStored (λ s. cond (leb gap mostGap) (sumAt l₀ n s) (sumFrom mv first second l₀ n q last true s)) n l₀ l
 
 -- Both ends are to be made from weights that stand in the words, with their total: values of at most 1 sum up to no more than that.
 pub record BothAsked (mv l first second : List ℕ) (n q last : ℕ) : Type 0 where
@@ -110,13 +113,19 @@ pub record BothAsked (mv l first second : List ℕ) (n q last : ℕ) : Type 0 wh
   pub divisor : totalIn l n < 2 ^ 52
   pub most : (v : ℕ → ℕ) → ((k : ℕ) → v k ≤ one) → sumTo (λ k. part (weightAt l n k) (v k)) (last + 1) * grain ≤ totalIn l n * one
 
+-- the upper end that the sums of both readings give: those of the lower start with the gap as their error where it is near
+abbrev pub upperBy : (mv first second l : List ℕ) (n q last gap : ℕ) → ℕ → ℕ
+upperBy mv first second l n q last gap s =
+    cond (leb gap mostGap) (upperFrom (sumFrom mv first second l n q last false s) (totalIn l n) (wholeOf l n last (unit * gap)))
+    (upperFrom (sumFrom mv first second l n q last true s) (totalIn l n) (wholeOf l n last 0))
+
 -- the intervals' ends stand in their places; all from the exit rates on but the step number is as it was
 pub record Both (mv first second : List ℕ) (n q last : ℕ) (old new : List ℕ) : Type 0 where
   pub same : length new ≡ length old
   pub lowers : (s : ℕ) → s < n → at new s ≡ pointed (verdicts first s) (verdicts second s)
       (sumFrom mv first second old n q last false s * scale / totalIn old n)
   pub uppers : (s : ℕ) → s < n → at new (n + s) ≡ pointed (verdicts first s) (verdicts second s)
-      (upperFrom (sumFrom mv first second old n q last true s) (totalIn old n) (wholeOf old n last 0))
+      (upperBy mv first second old n q last (startGap old first second n) s)
   pub after : (k : ℕ) → exitsFrom n ≤ k → (k ≡ numberAt n → ⊥) → at new k ≡ at old k
 
 -- a load above 0, of a hundred-millionths, is to be summed over
@@ -126,15 +135,16 @@ pub record SummedAsked (mv l first second : List ℕ) (n q a depth : ℕ) : Type
   pub weigh : WeighAsked l n a depth
   pub ends : EndsAsked l first second n
 
--- the end that the values of a reading sum up to: the lower one with undecided read as no, the upper one with undecided read as yes
-abbrev pub endBy : Bool → (a depth : ℕ) → (ℕ → ℕ) → ℕ
-endBy true a depth v = upperEnd a rateHundredths (a / rateHundredths) depth 0 v
-endBy false a depth v = lowerEnd a rateHundredths (a / rateHundredths) depth v
+-- the ends that the values of both readings sum up to, from starts that are so far apart: the upper one and the lower one
+abbrev pub endBy : Bool → (a depth gap : ℕ) → (low high : ℕ → ℕ) → ℕ
+endBy true a depth gap low high = nearUpper a rateHundredths depth gap low high
+endBy false a depth gap low high = lowerEnd a rateHundredths (a / rateHundredths) depth low
 
 -- that of a state, in a phase that starts from the ends of a list
 abbrev pub summedEnd : (mv first second l : List ℕ) (n q a depth : ℕ) → Bool → ℕ → ℕ
 summedEnd mv first second l n q a depth b s =
-    pointed (verdicts first s) (verdicts second s) (endBy b a depth (λ k. valueFrom mv first second l n q b k s))
+    pointed (verdicts first s) (verdicts second s)
+    (endBy b a depth (startGap l first second n) (λ k. valueFrom mv first second l n q false k s) (λ k. valueFrom mv first second l n q true k s))
 
 -- the two ends stand in their places, and no other word is changed
 abbrev pub Summed : (mv first second : List ℕ) (n q a depth : ℕ) → (old new : List ℕ) → Type 0
@@ -199,7 +209,8 @@ lowerEarlier mv first l n q t s =
 
 abbrev pub upperEarlier : (mv first l : List ℕ) (n q t : ℕ) → ℕ → ℕ
 upperEarlier mv first l n q t s =
-    earlierUpperOf (q * t) rateHundredths (loadDepth (q * t)) (verdicts first s) (at l (n + s))
+    earlierUpperOf (q * t) rateHundredths (loadDepth (q * t)) (earlierGap n (verdicts first) (at l) (λ i. at l (n + i))) (verdicts first s) (at l (n + s))
+    (λ k. startedValue mv q (λ i. readAs false (verdicts first i)) (at l) k s)
     (λ k. startedValue mv q (λ i. readAs true (verdicts first i)) (λ i. at l (n + i)) k s)
 
 -- they stand in their places, and no other word is changed

@@ -8,7 +8,7 @@ use lib.ListN.{length}
 use Rattle.csl.specs.Limits.{rateHundredths}
 use Rattle.csl.specs.Chain.{Chain, topRate, load, depth}
 use Rattle.bounds.specs.Unit.{unit}
-use Rattle.bounds.specs.StepValues.{Rounds, untilLowerOf, untilUpperOf, startedPhase, StartedRounds, earlierLowerOf, earlierUpperOf}
+use Rattle.bounds.specs.StepValues.{Rounds, untilLowerOf, untilUpperOf, startedPhase, StartedRounds, earlierLowerOf, earlierUpperOf, earlierGap}
 use Rattle.rate_matrix.specs.Words.{at, topOf}
 use Rattle.rate_matrix.specs.Shown.{Shows, top-shown}
 use Rattle.vectors.specs.Prepared.{Prepared, ends-prepared}
@@ -74,6 +74,8 @@ module _ {c : Chain} {mv first l₀ l : List ℕ} {n q t d : ℕ} (p : Shows c m
       (λ k. startedValue mv q (λ i. readAs false (verdicts first i)) (at l₀) k s)
   earlier-lower-shown s h = u .ends .lowers s h ∙ rw (load-shown p e t, ap (λ (x : ℕ). x * t) (q-shown p e)) refl
 
-  pub earlier-upper-shown : (s : ℕ) → s < n → at l (n + s) ≡ earlierUpperOf (topRate c * t) rateHundredths (depth c t) (verdicts first s) (at l₀ (n + s))
+  pub earlier-upper-shown : (s : ℕ) → s < n → at l (n + s) ≡ earlierUpperOf (topRate c * t) rateHundredths (depth c t)
+      (earlierGap n (verdicts first) (at l₀) (λ i. at l₀ (n + i))) (verdicts first s) (at l₀ (n + s))
+      (λ k. startedValue mv q (λ i. readAs false (verdicts first i)) (at l₀) k s)
       (λ k. startedValue mv q (λ i. readAs true (verdicts first i)) (λ i. at l₀ (n + i)) k s)
   earlier-upper-shown s h = u .ends .uppers s h ∙ rw (load-shown p e t, ap (λ (x : ℕ). x * t) (q-shown p e)) refl

@@ -4,10 +4,22 @@ mod ends;
 mod reading;
 
 pub use ends::still;
-ghost use Rattle.until.specs.Asked.{BothAsked, Both, SummedAsked, Summed, PhaseAsked, Phased, UntilAsked, Until, EarlierAsked, Earlier};
+ghost use mathlib.Core.Path.{_≡_};
+ghost use Rattle.until.specs.Asked.{errorOf, BothAsked, Both, SummedAsked, Summed, PhaseAsked, Phased, UntilAsked, Until, EarlierAsked, Earlier};
+
+// What the values of the lower start may lack of those of the upper one, where they serve both ends.
+fn error(gap: u64) -> u64
+    ensures { λ r. ⌜ r ≡ errorOf gap ⌝ }
+{
+    if gap <= bounds::MOST_GAP {
+        bounds::UNIT * gap
+    } else {
+        0
+    }
+}
 
 // The two ends of each state from those that stand in the words and the weights there: the lower one with undecided operand states read as
-// no, the upper one with them read as yes.
+// no, the upper one with them read as yes; one reading serves both where it starts from ends that are near.
 fn both_ends(
     moves: &[u64],
     words: &mut [u64],
@@ -21,11 +33,11 @@ fn both_ends(
     ensures { λ _. ⌜ Both (now (moves .entry)) (now (first .entry)) (now (second .entry)) n q last
         (now (words .entry)) (now (words .exit)) ⌝ }
 {
-    let alike = reading::alike(words, first, second, n);
+    let gap = reading::gap(words, first, second, n);
     reading::read(moves, words, first, second, n, q, last, false);
     phase::lower_ends(words, n);
-    reading::read_high(moves, words, first, second, n, q, last, alike);
-    phase::upper_ends(words, n, last, 0);
+    reading::read_high(moves, words, first, second, n, q, last, gap);
+    phase::upper_ends(words, n, last, error(gap));
     ends::point(words, first, second, n);
 }
 

@@ -1,9 +1,10 @@
 // The sums of a phase that starts from the ends in the words, over two rows of verdict bytes, undecided operand states read as yes or as no.
 ghost use mathlib.Core.Path.{_≡_};
-ghost use mathlib.Core.Bool.{true, not, cond, _||_};
+ghost use mathlib.Core.Bool.{not, cond, _||_};
+ghost use Prim.Native.Nat.{_-_, max};
 ghost use Rattle.phase.specs.Value.{stayOf};
 ghost use Rattle.until.specs.Run.{RunAsked, Ran};
-ghost use Rattle.until.specs.Asked.{StaysAsked, EndsAsked, LayAsked, Laid, allAlike, ReadAsked, Read, HighAsked};
+ghost use Rattle.until.specs.Asked.{StaysAsked, EndsAsked, LayAsked, Laid, startGap, ReadAsked, Read, ReadUnless};
 
 // Where the ends of a reading stand: the lower ones for undecided read as no, the upper ones for undecided read as yes.
 fn starts(n: usize, as_yes: bool) -> usize
@@ -78,28 +79,38 @@ pub fn read(
     run(moves, words, n, q, last);
 }
 
-// Whether both readings are one: no state is undecided in either row of verdict bytes, and the two ends of each state are the same.
-pub fn alike(words: &[u64], first: &[u8], second: &[u8], n: usize) -> bool
-    requires { ⌜ EndsAsked (now words) (now first) (now second) n ⌝ }
-    ensures { λ r. ⌜ r ≡ allAlike (now (words .entry)) (now (first .entry)) (now (second .entry)) n n ⌝ }
+// A gap, or how far the upper end of a state lies above its lower one, whichever is more.
+fn wider(gap: u64, lower: u64, upper: u64) -> u64
+    ensures { λ r. ⌜ r ≡ max gap (upper - lower) ⌝ }
 {
+    if upper <= lower {
+        return gap;
+    }
+    let apart = upper - lower;
+    if gap < apart { apart } else { gap }
+}
+
+// How far the two ends of a state are apart at most; more than is near where a state is undecided in either row of verdict bytes.
+pub fn gap(words: &[u64], first: &[u8], second: &[u8], n: usize) -> u64
+    requires { ⌜ EndsAsked (now words) (now first) (now second) n ⌝ }
+    ensures { λ r. ⌜ r ≡ startGap (now (words .entry)) (now (first .entry)) (now (second .entry)) n ⌝ }
+{
+    let mut gap: u64 = 0;
     let mut s: usize = 0;
     while s < n {
         if 1 < first[s] {
-            return false;
+            return bounds::MOST_GAP + 1;
         }
         if 1 < second[s] {
-            return false;
+            return bounds::MOST_GAP + 1;
         }
-        if words[s] != words[n + s] {
-            return false;
-        }
+        gap = wider(gap, words[s], words[n + s]);
         s += 1;
     }
-    true
+    gap
 }
 
-// The sums with undecided read as yes, unless they stand there already.
+// The sums with undecided read as yes; where the starts are near, those that stand there stay, and serve both ends.
 pub fn read_high(
     moves: &[u64],
     words: &mut [u64],
@@ -108,13 +119,13 @@ pub fn read_high(
     n: usize,
     q: u64,
     last: usize,
-    there: bool,
+    gap: u64,
 )
-    requires { ⌜ HighAsked (now moves) (now words) (now first) (now second) n q last there ⌝ }
-    ensures { λ _. ⌜ Read (now (moves .entry)) (now (first .entry)) (now (second .entry)) n q last true
+    requires { ⌜ ReadAsked (now moves) (now words) (now first) (now second) n q last ⌝ }
+    ensures { λ _. ⌜ ReadUnless (now (moves .entry)) (now (first .entry)) (now (second .entry)) n q last gap
         (now (words .entry)) (now (words .exit)) ⌝ }
 {
-    if there {
+    if gap <= bounds::MOST_GAP {
         return;
     }
     read(moves, words, first, second, n, q, last, true);

@@ -4,6 +4,9 @@ use borrow.Author.Needs.{needs}
 use Rattle.decide.proofs.chance.over_two_phases.Statement.{statement}
 use Rattle.decide.proofs.chance.over_two_phases.Tie as tie
 
+sub-rest : tie.Need-sub-rest
+sub-rest c = search needs
+
 sub-until : tie.Need-sub-until
 sub-until c = search needs
 
@@ -12,9 +15,6 @@ part-until-start c = search needs
 
 part-until-end : tie.Need-part-until-end
 part-until-end c = search needs
-
-sub-until-2 : tie.Need-sub-until-2
-sub-until-2 c = search needs
 
 until-requires : tie.Need-until-requires
 until-requires c κs = search needs
@@ -72,10 +72,10 @@ pub over-two-phases-spec : {M : Type 1} → statement M
 over-two-phases-spec =
     tie.close
     (tie.spec
+    sub-rest
     sub-until
     part-until-start
     part-until-end
-    sub-until-2
     until-requires
     clear-second-requires
     sub-earlier
