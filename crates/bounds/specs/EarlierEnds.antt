@@ -1,5 +1,5 @@
 -- The two ends of an until between two times at a state, by cases as the code decides them, keep the rules for ends. Assumes nothing.
-use mathlib.Core.Path.{_≡_, refl, ap, sym, _∙_}
+use mathlib.Core.Path.{_≡_, refl, sym}
 use mathlib.Core.Bool.{Bool, true, false, cond, _&&_}
 use Prim.Native.Nat.{ℕ, suc, _+_, _*_, _-_, _≤_, _<_}
 use native.Mathlib.Omega.{arith}
@@ -17,7 +17,7 @@ use Rattle.csl.specs.Laws.Decided.{allDecided, all-decided}
 use Rattle.csl.specs.Laws.Sum.{greatest-le}
 use Rattle.bounds.specs.Width.{mostDepth}
 use Rattle.bounds.specs.StepValues.{StartedRounds, pointed, mostGap, gapOf, earlierLowerOf, earlierUpperOf, earlierGap}
-use Rattle.bounds.specs.Reading.{factor-some, summedLower, summedUpper}
+use Rattle.bounds.specs.Reading.{summedLower, summedUpper}
 use Rattle.bounds.specs.UntilEnds.{differ}
 use Rattle.bounds.specs.TwoPhases.{nearEnd, near-pairs, summed-pairs}
 

@@ -17,7 +17,7 @@ use Rattle.csl.specs.Between.{laterQuotient, earlierPhase, betweenQuotient, bet
 use Rattle.csl.specs.Ends.{EndsAt}
 use Rattle.csl.specs.Path.{AllDecided}
 use Rattle.csl.specs.Laws.Fraction.{below-trans}
-use Rattle.csl.specs.Laws.Steps.{Starts, divisor-some}
+use Rattle.csl.specs.Laws.Steps.{divisor-some}
 use Rattle.csl.specs.Laws.Verdicts.{decided-same}
 use Rattle.csl.specs.Laws.Quotient.{quotient-is, until-is}
 use Rattle.csl.specs.Laws.Between.{until-bottoms}

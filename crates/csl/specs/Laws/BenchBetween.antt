@@ -1,14 +1,14 @@
 -- The bench values of until between two times hold. Assumes nothing.
-use mathlib.Core.Path.{_≡_, refl, ap, _∙_}
+use mathlib.Core.Path.{_≡_, refl, _∙_}
 use mathlib.Core.Bool.{Bool, true, false, _&&_}
 use Prim.Native.Nat.{ℕ, suc, _*_, _<_}
 use native.Mathlib.Omega.{arith}
-use Rattle.csl.specs.Text.{Text, bytes}
-use Rattle.csl.specs.Limits.{billion, hour}
+use Rattle.csl.specs.Text.{bytes}
+use Rattle.csl.specs.Limits.{billion}
 use Rattle.csl.specs.Formula.{Formula, always, label, chance, between, Comparison, AtLeast}
 use Rattle.csl.specs.Chain.{Chain, topRate}
 use Rattle.csl.specs.Phase.{bit}
-use Rattle.csl.specs.Verdicts.{Verdict, No, Yes, marked, judged, asNo, asYes}
+use Rattle.csl.specs.Verdicts.{Verdict, No, Yes, marked, judged}
 use Rattle.csl.specs.Report.{Reported}
 use Rattle.csl.specs.Refusal.{jobChain}
 use Rattle.csl.specs.Bench.{still, up, eight, Prints, NotBeforeAnHour}

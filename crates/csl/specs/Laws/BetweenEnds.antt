@@ -7,7 +7,7 @@ use native.Mathlib.Omega.{arith}
 use native.Mathlib.Nat.{eq-of-mul-eq-mul-right}
 use Rattle.csl.specs.Limits.{billion}
 use Rattle.csl.specs.Formula.{Formula, chance, until, between, untilOf, betweenOf, Comparison}
-use Rattle.csl.specs.Fraction.{Fraction, frac, IsFraction, Same}
+use Rattle.csl.specs.Fraction.{Fraction, frac, Same}
 use Rattle.csl.specs.Chain.{Chain, topRate, load}
 use Rattle.csl.specs.Phase.{bit, divisor, stepTop, stepValue}
 use Rattle.csl.specs.Verdicts.{Verdict, No, asNo, asYes, least, most}

@@ -9,7 +9,7 @@ use Rattle.csl.specs.Fraction.{Fraction, times, sumUp}
 use Rattle.csl.specs.Chain.{Chain, sumTo, greatest, away, exitRate, topRate, load, depth}
 use Rattle.csl.specs.Phase.{Phase, bit, moved, divisor, stepTop, stepValue, weight, quotient}
 use Rattle.csl.specs.Next.{nextExitRate, enteringRate}
-use Rattle.csl.specs.Until.{untilPhase, untilQuotient}
+use Rattle.csl.specs.Until.{untilQuotient}
 use Rattle.csl.specs.Between.{betweenQuotient}
 use Rattle.csl.specs.Laws.Sum.{sum-cong, greatest-cong}
 

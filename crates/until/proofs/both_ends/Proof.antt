@@ -3,14 +3,6 @@ use borrow.Author.Needs.{needs}
 use Rattle.until.proofs.BothLaw.{both-laws, may-high, may-upper, may-point, is-both}
 use Rattle.until.proofs.both_ends.Statement.{statement}
 use Rattle.until.proofs.both_ends.Tie as tie
-use Rattle.until.proofs.both_ends.Reads as reads
-use Rattle.phase.proofs.lower_ends.Reads as lower-ends-reads
-use Rattle.phase.proofs.upper_ends.Reads as upper-ends-reads
-use Rattle.until.proofs.ends.point.Reads as point-reads
-use Rattle.until.proofs.error.Reads as error-reads
-use Rattle.until.proofs.reading.gap.Reads as gap-reads
-use Rattle.until.proofs.reading.read.Reads as read-reads
-use Rattle.until.proofs.reading.read_high.Reads as read-high-reads
 
 -- from the place after a call back to the place after the call before it, or to the function's entry
 abbrev before-gap : tie.After-gap → tie.Start

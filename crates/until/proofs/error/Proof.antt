@@ -3,7 +3,6 @@ use borrow.Author.Needs.{needs}
 use Rattle.until.proofs.GapLaw.{error-laws}
 use Rattle.until.proofs.error.Statement.{statement}
 use Rattle.until.proofs.error.Tie as tie
-use Rattle.until.proofs.error.Reads as reads
 
 mul-result : tie.Need-mul-result
 mul-result c = search (needs, error-laws)

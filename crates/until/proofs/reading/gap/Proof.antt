@@ -4,8 +4,6 @@ use Prim.Native.Nat.{_-_}
 use Rattle.until.proofs.GapLaw.{Inv, gap-laws}
 use Rattle.until.proofs.reading.gap.Statement.{statement}
 use Rattle.until.proofs.reading.gap.Tie as tie
-use Rattle.until.proofs.reading.gap.Reads as reads
-use Rattle.until.proofs.reading.wider.Reads as wider-reads
 
 abbrev Inv-loop : tie.InvT-loop
 Inv-loop words first second n gap₀ s₀ gap s = Inv words first second n gap s

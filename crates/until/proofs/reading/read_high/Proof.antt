@@ -3,8 +3,6 @@ use borrow.Author.Needs.{needs}
 use Rattle.until.proofs.ReadLaw.{high-laws}
 use Rattle.until.proofs.reading.read_high.Statement.{statement}
 use Rattle.until.proofs.reading.read_high.Tie as tie
-use Rattle.until.proofs.reading.read_high.Reads as reads
-use Rattle.until.proofs.reading.read.Reads as read-reads
 
 returns : tie.Need-returns
 returns c = search (needs, high-laws)
