@@ -46,15 +46,20 @@ pub record UntilAsked (mv ix l marks : List ℕ) (n q t p : ℕ) : Type 0 where
   pub threshold : p ≤ mostThreshold
   pub held : n + n ≤ length marks
 
--- It is decided, whatever the verdicts are that the bytes of the two rows stand for; the second row holds 0 again.
+-- A `P` over a path of two operands is decided: its own row, 0 in the second again, and its report.
 pub record TwoDecided (c : Chain) (r : Comparison) (p : ℕ) (o : PathOf (ℕ → Verdict)) (n : ℕ) (l₀ l marks₀ marks : List ℕ) (d : ℕ) : Type 0 where
   pub rows : Twin (chanceByte c r p o) (λ _. 0) 0 n n marks₀ marks
   pub report : PathEnds c o n l₀ l d
 
+-- It is, from the rows of the operands, whatever the verdicts are that their bytes stand for.
+abbrev pub FromTwo : Chain → Comparison → ℕ → ((v w : ℕ → Verdict) → PathOf (ℕ → Verdict)) → (n : ℕ) → (l₀ l marks₀ marks : List ℕ) → ℕ → Type 0
+FromTwo c r p path n l₀ l marks₀ marks d =
+    (v w : ℕ → Verdict) → ((s : ℕ) → s < n → verdictAt (at marks₀ s) ≡ v s) → ((s : ℕ) → s < n → verdictAt (at marks₀ (n + s)) ≡ w s)
+    → TwoDecided c r p (path v w) n l₀ l marks₀ marks d
+
 abbrev pub UntilLeaves : {mv ix l marks : List ℕ} {n q t p : ℕ} → UntilAsked mv ix l marks n q t p → Comparison → (l' marks' : List ℕ) → ℕ → Type 0
 UntilLeaves {l = l} {marks = marks} {n = n} {t = t} {p = p} a r l' marks' d =
-    (v w : ℕ → Verdict) → ((s : ℕ) → s < n → verdictAt (at marks s) ≡ v s) → ((s : ℕ) → s < n → verdictAt (at marks (n + s)) ≡ w s)
-    → TwoDecided (a .c) r p (untilOf t v w) n l l' marks marks' d
+    FromTwo (a .c) r p (untilOf t) n l l' marks marks' d
 
 -- The same over a next move, from the row of its operand.
 pub record NextAsked (mv l marks : List ℕ) (n p : ℕ) : Type 0 where
@@ -88,8 +93,7 @@ pub record TwoPhasesAsked (mv l marks : List ℕ) (n q t u p : ℕ) : Type 0 whe
 
 abbrev pub TwoPhasesLeaves : {mv l marks : List ℕ} {n q t u p : ℕ} → TwoPhasesAsked mv l marks n q t u p → Comparison → (l' marks' : List ℕ) → ℕ → Type 0
 TwoPhasesLeaves {l = l} {marks = marks} {n = n} {t = t} {u = u} {p = p} a r l' marks' d =
-    (v w : ℕ → Verdict) → ((s : ℕ) → s < n → verdictAt (at marks s) ≡ v s) → ((s : ℕ) → s < n → verdictAt (at marks (n + s)) ≡ w s)
-    → TwoDecided (a .c) r p (betweenOf t u v w) n l l' marks marks' d
+    FromTwo (a .c) r p (betweenOf t u) n l l' marks marks' d
 
 -- And with any first time: where it is 0, what until over the second asks.
 pub record BetweenAsked (mv ix l marks : List ℕ) (n q t u p : ℕ) : Type 0 where
@@ -106,8 +110,7 @@ pub record BetweenAsked (mv ix l marks : List ℕ) (n q t u p : ℕ) : Type 0 wh
 
 abbrev pub BetweenLeaves : {mv ix l marks : List ℕ} {n q t u p : ℕ} → BetweenAsked mv ix l marks n q t u p → Comparison → (l' marks' : List ℕ) → ℕ → Type 0
 BetweenLeaves {l = l} {marks = marks} {n = n} {t = t} {u = u} {p = p} a r l' marks' d =
-    (v w : ℕ → Verdict) → ((s : ℕ) → s < n → verdictAt (at marks s) ≡ v s) → ((s : ℕ) → s < n → verdictAt (at marks (n + s)) ≡ w s)
-    → TwoDecided (a .c) r p (betweenOf t u v w) n l l' marks marks' d
+    FromTwo (a .c) r p (betweenOf t u) n l l' marks marks' d
 
 -- And over any path.
 pub record ChanceAsked (mv ix l marks : List ℕ) (path : Path) (p n q : ℕ) : Type 0 where
