@@ -1,7 +1,7 @@
 -- What follows from the definitions alone: the user's third demand, of EVERY report that has a backing, whoever made it; the bench values;
 -- what document 01 says in passing; and that the rules can be kept. Nothing here speaks of a program. Assumes nothing.
 use mathlib.Core.Path.{_≡_, refl}
-use mathlib.Core.Bool.{Bool, true, false, cond}
+use mathlib.Core.Bool.{Bool, true, false, cond, _&&_}
 use mathlib.Core.Logic.{_⊎_}
 use Prim.Native.Nat.{ℕ, suc, _+_, _*_, _-_, _≤_, _<_}
 use mathlib.Core.List.{List}
@@ -19,9 +19,9 @@ use Rattle.csl.specs.Formula.{Formula, chance, Path, until, nextMove, be
 use Rattle.csl.specs.Grammar.{readState, whole, Spells}
 use Rattle.csl.specs.Fraction.{frac, IsFraction, Below, Same, times, sumUp, roundUp, billionths}
 use Rattle.csl.specs.Chain.{Chain, exitRate, topRate, load, depth}
-use Rattle.csl.specs.Phase.{divisor, stepTop, stepValue, weight, quotient}
+use Rattle.csl.specs.Phase.{bit, divisor, stepTop, stepValue, weight, quotient}
 use Rattle.csl.specs.Limit.{Each, FromSome, LimitIs}
-use Rattle.csl.specs.Verdicts.{Verdict, No, Yes, Reading, Decided, asNo, least, Sides}
+use Rattle.csl.specs.Verdicts.{Verdict, No, Yes, Reading, Decided, asNo, asYes, least, Sides}
 use Rattle.csl.specs.Graph.{Leads, UntilPossible, UntilCertain, Enters, EntersOnly, ByPossible, ByCertain}
 use Rattle.csl.specs.Until.{untilPhase, untilQuotient}
 use Rattle.csl.specs.Next.{nextExitRate, nextFraction, nextLower, nextUpper}
@@ -41,7 +41,7 @@ use Rattle.csl.specs.Laws.Quotient.{Implies, until-starts, until-under, 
 use Rattle.csl.specs.Laws.Next.{next-is, next-le, next-rises}
 use Rattle.csl.specs.Laws.NextEnds.{ends-next}
 use Rattle.csl.specs.Laws.Between.{earlier-start, between-is, between-le, between-rises}
-use Rattle.csl.specs.Laws.BetweenEnds.{between-reports, until-reports}
+use Rattle.csl.specs.Laws.BetweenEnds.{still-pair-lower, still-pair-upper, between-reports, until-reports}
 use Rattle.csl.specs.Laws.OwnState.{exit-own, SameElsewhere, exit-same, top-same, depth-same, until-same-elsewhere, between-same-elsewhere}
 use Rattle.csl.specs.Laws.Tail.{half-weight, light-from, after}
 use Rattle.csl.specs.Laws.Enclosure.{Encloses, encloses, ordered-ends}
@@ -161,6 +161,13 @@ module _ (c : Chain) (r : Comparison) (p t u : ℕ) (a b : Formula) (lower upper
 
   pub impossible-in-two-phases : (s : ℕ) → s < c .states → k .first s ≡ No → (lower s ≡ 0) × (upper s ≡ 0)
   impossible-in-two-phases s l = k .keeps .ends s l .points .impossible
+
+  pub ends-of-two-phases-with-q-0 : topRate c ≡ 0 → (s : ℕ) → s < c .states
+      → (lower s ≡ billion * bit (asNo (k .first s) && asNo (k .second s))) × (upper s ≡ billion * bit (asYes (k .first s) && asYes (k .second s)))
+  ends-of-two-phases-with-q-0 z s l = (
+    still-pair-lower c t u (k .first) (k .second) s l (lower s) (upper s) z (k .keeps .ends s l),
+    still-pair-upper c t u (k .first) (k .second) s l (lower s) (upper s) z (k .keeps .ends s l),
+  )
 
   pub intervals-decide-two-phases : (s : ℕ) → s < c .states → Sides (v s) r p (lower s) (upper s)
   intervals-decide-two-phases s l = verdicts-follow c r p (between (suc t) u a b) lower upper v k s l

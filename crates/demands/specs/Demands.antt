@@ -2,7 +2,7 @@
 -- finished (csl's `Finished`) when its answer and its buffers are as document 01 has them; that is what `checker::check` promises, with no
 -- `requires`. What is stated here holds of every finished job. Assumes nothing.
 use mathlib.Core.Path.{_≡_}
-use mathlib.Core.Bool.{Bool, false}
+use mathlib.Core.Bool.{Bool, false, _&&_}
 use mathlib.Core.List.{List}
 use mathlib.Core.Logic.{_⊎_}
 use mathlib.Core.Option.{none, some}
@@ -13,8 +13,9 @@ use Rattle.csl.specs.Moves.{ratesOut}
 use Rattle.csl.specs.Formula.{Formula, chance, Path, until, nextMove, between, PathOf, twoPhases, Comparison}
 use Rattle.csl.specs.Fraction.{Below, billionths}
 use Rattle.csl.specs.Chain.{Chain, exitRate, topRate, depth}
+use Rattle.csl.specs.Phase.{bit}
 use Rattle.csl.specs.Limit.{Each}
-use Rattle.csl.specs.Verdicts.{Verdict, No, Reading, Decided, asNo, least, Sides}
+use Rattle.csl.specs.Verdicts.{Verdict, No, Reading, Decided, asNo, asYes, least, Sides}
 use Rattle.csl.specs.Graph.{UntilPossible, UntilCertain, Enters, EntersOnly, ByPossible, ByCertain}
 use Rattle.csl.specs.Until.{untilQuotient}
 use Rattle.csl.specs.Next.{nextExitRate, nextFraction, nextLower, nextUpper}
@@ -167,7 +168,7 @@ module _ (c : Chain) (r : Comparison) (p : ℕ) (f : Formula) (lower upper : ℕ
   both-ends-are-determined = theorems.ends-of-a-next-move c r p f lower upper v k s in-range
 
 -- and of until between two times, with the first above 0, "for each pair of depths from the two phases' own depths on"; their sum "is D in both
--- limits of 4 × D"; "both 0 where the first operand is no"
+-- limits of 4 × D"; "both 0 where the first operand is no, and exact ends with q = 0"
 module _ (c : Chain) (r : Comparison) (p t u : ℕ) (f g : Formula) (lower upper : ℕ → ℕ) (v : ℕ → Verdict)
     (k : Reported c (chance r p (between (suc t) u f g)) lower upper v) where
   pub every-pair-is-enclosed : (x y : ℕ → Bool) → Reading (c .states) (k .first) x → Reading (c .states) (k .second) y
@@ -181,6 +182,10 @@ module _ (c : Chain) (r : Comparison) (p t u : ℕ) (f g : Formula) (lower upper
 
   pub both-ends-are-0-without-the-first-operand : (s : ℕ) → s < c .states → k .first s ≡ No → (lower s ≡ 0) × (upper s ≡ 0)
   both-ends-are-0-without-the-first-operand s l e = theorems.impossible-in-two-phases c r p t u f g lower upper v k s l e
+
+  pub ends-are-exact-with-q-0 : topRate c ≡ 0 → (s : ℕ) → s < c .states
+      → (lower s ≡ billion * bit (asNo (k .first s) && asNo (k .second s))) × (upper s ≡ billion * bit (asYes (k .first s) && asYes (k .second s)))
+  ends-are-exact-with-q-0 z s l = theorems.ends-of-two-phases-with-q-0 c r p t u f g lower upper v k z s l
 
   pub two-phases-are-left-to-their-ends : (s : ℕ) → s < c .states → Sides (v s) r p (lower s) (upper s)
   two-phases-are-left-to-their-ends s l = theorems.intervals-decide-two-phases c r p t u f g lower upper v k s l
