@@ -29,17 +29,21 @@ class And:
     right: object
 
 
+class OfTwo:
+    """A path formula over two operands, the first until the second."""
+
+    @property
+    def operands(self):
+        return self.first, self.second
+
+
 @dataclass(frozen=True)
-class Until:
+class Until(OfTwo):
     """A path formula, `U`: neither a node nor a level. Its time is in hundredths of an hour, as every time here."""
     hundredths: int
     first: object
     second: object
     letter = b"U"
-
-    @property
-    def operands(self):
-        return self.first, self.second
 
     @property
     def times(self):
@@ -53,7 +57,7 @@ class Until:
 
 
 @dataclass(frozen=True)
-class Between:
+class Between(OfTwo):
     """Until between two times, `V`: the second operand at some time from the earliest to the latest, the first until then."""
     earliest: int
     latest: int
@@ -62,11 +66,8 @@ class Between:
     letter = b"V"
 
     @property
-    def operands(self):
-        return self.first, self.second
-
-    @property
     def times(self):
+        """The times that are typed, in their order."""
         return self.earliest, self.latest
 
     @property

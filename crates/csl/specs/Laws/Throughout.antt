@@ -5,7 +5,7 @@ use Prim.Native.Nat.{ℕ}
 use Rattle.csl.specs.Formula.{Comparison, Formula, always, label, negated, both, chance, Path, until, nextMove, between, PathOf, untilOf, nextOf, betweenOf}
 use Rattle.csl.specs.Chain.{Chain}
 use Rattle.csl.specs.Limit.{Value}
-use Rattle.csl.specs.Verdicts.{Verdict, No, Yes, Undecided, Agrees, asNo}
+use Rattle.csl.specs.Verdicts.{Verdict, No, Yes, Undecided, Agrees, Reading, asNo}
 use Rattle.csl.specs.Path.{valueAt, SidesAt, Reads, reads-until, reads-next, reads-between}
 use Rattle.csl.specs.Backing.{AtEach, Backed, PathBacked, ChanceKeeps, SidesThroughout, SidesThroughoutIn}
 use Rattle.csl.specs.Truth.{Throughout, ThroughoutIn, Obeys, PathObeys, ChanceObeys}
@@ -125,6 +125,25 @@ pub record Shared (c : Chain) (K L : PathOf (ℕ → Verdict) → Type 0) : Type
   pub one-kept : K one
   pub other-kept : L other
 
+-- those of a path of two operands, whose verdicts are together: yes where either says yes
+shared-two : (c : Chain) (K L : PathOf (ℕ → Verdict) → Type 0) (path : (v w : ℕ → Verdict) → PathOf (ℕ → Verdict))
+    (read : (x y : ℕ → Bool) → PathOf (ℕ → Bool))
+    → ((v w : ℕ → Verdict) (x y : ℕ → Bool) → Reading (c .states) v x → Reading (c .states) w y → Reads (c .states) (path v w) (read x y))
+    → (v v' w w' : ℕ → Verdict) → AtEach c (λ s. Together (v s) (v' s)) → AtEach c (λ s. Together (w s) (w' s)) → K (path v w) → L (path v' w')
+    → Shared c K L
+shared-two c K L path read reads v v' w w' h j k m =
+    let x : ℕ → Bool = λ s. either (v s) (v' s) in
+    let y : ℕ → Bool = λ s. either (w s) (w' s) in
+    record {
+      one = path v w;
+      other = path v' w';
+      reading = read x y;
+      one-read = reads v w x y (λ s l. together-left _ _ (h s l)) (λ s l. together-left _ _ (j s l));
+      other-read = reads v' w' x y (λ s l. together-right _ _ (h s l)) (λ s l. together-right _ _ (j s l));
+      one-kept = k;
+      other-kept = m;
+    }
+
 -- where one backing has yes no other has no
 mutual
   pub backings-agree : (c : Chain) (f : Formula) (v w : ℕ → Verdict) → Backed c f v → Backed c f w → AtEach c λ s. Together (v s) (w s)
@@ -155,19 +174,8 @@ mutual
       → PathBacked c path (ChanceKeeps c r p lower upper v) → PathBacked c path (ChanceKeeps c r p lower' upper' w)
       → Shared c (ChanceKeeps c r p lower upper v) (ChanceKeeps c r p lower' upper' w)
   shared c (until t a e) r p lower upper v lower' upper' w k m =
-      let h : AtEach c λ u. Together (k .first u) (m .first u) = backings-agree c a _ _ (k .first-backed) (m .first-backed) in
-      let j : AtEach c λ u. Together (k .second u) (m .second u) = backings-agree c e _ _ (k .second-backed) (m .second-backed) in
-      let x : ℕ → Bool = λ u. either (k .first u) (m .first u) in
-      let y : ℕ → Bool = λ u. either (k .second u) (m .second u) in
-      record {
-        one = _;
-        other = _;
-        reading = untilOf t x y;
-        one-read = reads-until t (k .first) (k .second) x y (λ u q. together-left _ _ (h u q)) (λ u q. together-left _ _ (j u q));
-        other-read = reads-until t (m .first) (m .second) x y (λ u q. together-right _ _ (h u q)) (λ u q. together-right _ _ (j u q));
-        one-kept = k .keeps;
-        other-kept = m .keeps;
-      }
+      shared-two c _ _ (untilOf t) (untilOf t) (reads-until t) (k .first) (m .first) (k .second) (m .second)
+      (backings-agree c a _ _ (k .first-backed) (m .first-backed)) (backings-agree c e _ _ (k .second-backed) (m .second-backed)) (k .keeps) (m .keeps)
   shared c (nextMove a) r p lower upper v lower' upper' w k m =
       let h : AtEach c λ u. Together (k .first u) (m .first u) = backings-agree c a _ _ (k .first-backed) (m .first-backed) in
       let x : ℕ → Bool = λ u. either (k .first u) (m .first u) in
@@ -180,17 +188,6 @@ mutual
         one-kept = k .keeps;
         other-kept = m .keeps;
       }
-  shared c (between t t' a e) r p lower upper v lower' upper' w k m =
-      let h : AtEach c λ u. Together (k .first u) (m .first u) = backings-agree c a _ _ (k .first-backed) (m .first-backed) in
-      let j : AtEach c λ u. Together (k .second u) (m .second u) = backings-agree c e _ _ (k .second-backed) (m .second-backed) in
-      let x : ℕ → Bool = λ u. either (k .first u) (m .first u) in
-      let y : ℕ → Bool = λ u. either (k .second u) (m .second u) in
-      record {
-        one = _;
-        other = _;
-        reading = betweenOf t t' x y;
-        one-read = reads-between t t' (k .first) (k .second) x y (λ u q. together-left _ _ (h u q)) (λ u q. together-left _ _ (j u q));
-        other-read = reads-between t t' (m .first) (m .second) x y (λ u q. together-right _ _ (h u q)) (λ u q. together-right _ _ (j u q));
-        one-kept = k .keeps;
-        other-kept = m .keeps;
-      }
+  shared c (between t u a e) r p lower upper v lower' upper' w k m =
+      shared-two c _ _ (betweenOf t u) (betweenOf t u) (reads-between t u) (k .first) (m .first) (k .second) (m .second)
+      (backings-agree c a _ _ (k .first-backed) (m .first-backed)) (backings-agree c e _ _ (k .second-backed) (m .second-backed)) (k .keeps) (m .keeps)
