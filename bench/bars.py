@@ -2,6 +2,7 @@
 from collections import namedtuple
 
 import sheets
+from line_orders import OUT_OF_ORDER, formulas
 from measuring import balls_agree, doubles_agree, width
 from ordering import at_most, out_of_order
 from reckoning.chain import depth
@@ -20,6 +21,7 @@ MOST_OF_JOB = 0.05                      # of a whole job, for the order of its s
 MOST_OF_UNTIL = 0.03                    # of an until, for the search along the moves
 MOST_WITH_INDEX = 0.1                   # and with the index of incoming moves: a goal and no bar
 MOST_APART = 4                          # times that a search for each state and move may take of what it takes on another sheet: a goal and no bar
+MOST_OVER_RISING = 1.1                  # of lines out of order, the whole job against that with rising lines
 MOST_RESIDENT = 4096                    # KB
 MOST_WIDTH = 2                          # billionths
 
@@ -122,11 +124,22 @@ def of_searches(searches, largest):
               f"{min(each):.2f} to {max(each):.2f} ns", max(each) <= MOST_APART * min(each), False)
 
 
-def bars(rows, others, footprints, asked, two_phases, orderings, searches):
+def of_line_orders(orders):
+    """What lines out of order cost a whole job of the largest sheet, and that all orders have the same report and the same copy."""
+    asked = zip(formulas(), (f"at depth {JUDGED_DEPTH}", f"at depth {depth(sheets.HOURS[0])}", "with `tt`"), (True, False, False))
+    for formula, told_as, judged in asked:
+        over = [order.over[formula] for order in orders if order.way in OUT_OF_ORDER]
+        yield Bar(f"whole job at most {MOST_OVER_RISING} times with lines out of order {told_as}", f"{min(over):.3f} to {max(over):.3f}",
+                  max(over) <= MOST_OVER_RISING, judged)
+    same = all(order.same for order in orders)
+    yield Bar("reports and copies the same for all orders of lines", "yes" if same else "no", same, True)
+
+
+def bars(rows, others, footprints, asked, two_phases, orderings, searches, line_orders):
     """All bars; `others` are rows of other shapes, where the whole job is not held against its until, `asked` those with restarts."""
     every = rows + others
     return [*over_doubles(every), *under_balls(every), *over_untils(rows), *of_orders(orderings, rows), *of_searches(searches, rows[-1].sheet),
-            *of_footprints(footprints), *of_answers(every), *of_restarts(asked), *of_two_phases(two_phases)]
+            *of_line_orders(line_orders), *of_footprints(footprints), *of_answers(every), *of_restarts(asked), *of_two_phases(two_phases)]
 
 
 def told(bar):

@@ -44,6 +44,7 @@ def build():
         compile_c("job", ["job.c"], ARCHIVE),
         compile_c("short", ["job.c"], "-DBENCH_SHORT", ARCHIVE),
         compile_c("turns", ["turns.c"], ARCHIVE),
+        compile_c("lines", ["lines.c"], ARCHIVE),
         compile_c("within", ["within.c"]),
     ]
     if not all(built):

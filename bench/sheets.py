@@ -70,6 +70,17 @@ def write_bare(folder, states):
     return written(folder, NO_MOVES, labels_text([], [[]] * states))
 
 
+def moves_of(sheet):
+    """The moves of a sheet that the bench wrote, as (from, to, rate)."""
+    lines = (sheet.folder / FILES[0]).read_bytes().splitlines()[1:]
+    return [tuple(map(int, line.split(b","))) for line in lines]
+
+
+def retyped(sheet, moves, folder):
+    """Writes a sheet once more, with these moves as its lines."""
+    return written(folder, moves_text(moves), (sheet.folder / FILES[1]).read_bytes())
+
+
 def written(folder, moves, labels):
     """Writes the two texts of a sheet."""
     folder.mkdir(parents=True, exist_ok=True)

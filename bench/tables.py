@@ -1,5 +1,6 @@
 """The figures of the bench as text."""
 from growth import slope, steps_made, two_terms
+from line_orders import formulas
 from measuring import balls_agree, doubles_agree, width
 from ordering import at_most, out_of_order
 from searching import for_each, share as share_of_until, share_with_index
@@ -11,6 +12,7 @@ RESTART_HEADS = ["formula", "states", "moves", "reading", "job", "job - reading"
 PHASE_HEADS = ["formula", "states", "moves", "depth", "doubles", "engine", "eng/dbl", "over one", "dbl over one", "widest", "dbl in"]
 ORDER_HEADS = ["states", "falling", "rising", "drawn", "equal", "out of order", "after tests"]
 SEARCH_HEADS = ["states", "moves", "furthest", "until", "search", "of until", "ns for each", "with index", "of until"]
+LINE_HEADS = ["lines", "states", "moves", "job", "of rising", "at depth 42", "of rising", "reading", "of rising", "copy", "ns for each line", "same"]
 GROWTH_HEADS = ["states", "moves", "depth", "doubles", "Arb", "engine", "whole job"]
 QUIET = 0.1                             # two ways to one time part by at most this share on a quiet machine
 WORDS = {True: "yes", False: "NO", None: "-"}
@@ -149,6 +151,18 @@ def search_fit(searches):
     a, b, miss = two_terms([(search.sheet.states, search.sheet.moves, search.search) for search in searches])
     return (f"search: grows as (states + moves) to the power {power:.3f}; {a:.2f} ns x states + {b:.2f} ns x moves, "
             f"no row off by more than {100 * miss:.0f} %")
+
+
+def line_order_line(order):
+    """A row of the table of orders of lines."""
+    timed = [cell for formula in formulas() for cell in (milliseconds(order.times[formula]), f"{order.over[formula]:.3f}")]
+    return [order.way, str(order.sheet.states), str(order.sheet.moves), *timed, milliseconds(order.copy), f"{order.copy / order.sheet.moves:.2f}",
+            WORDS[order.same]]
+
+
+def line_order_table(orders):
+    """Times of jobs and copies whose moves are typed in several ways."""
+    return laid_out(LINE_HEADS, map(line_order_line, orders))
 
 
 def footprint_line(found):

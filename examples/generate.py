@@ -17,8 +17,9 @@ from reckoning.limits import RATE_HOURS
 from reckoning.sheets import FORMULA, labels_text, moves_text
 
 # `states` are values of any kind in the order of their numbers; `moves` has a rate for each (from, to) of them, per million hours;
-# `labels` has for each name the test that says where it holds; `told` puts a state into words.
-Sheet = namedtuple("Sheet", "states moves labels formula told")
+# `labels` has for each name the test that says where it holds; `told` puts a state into words; `foot` has the moves, as (from, to, rate), that
+# were added below the others, in the order in which they were.
+Sheet = namedtuple("Sheet", "states moves labels formula told foot", defaults=[()])
 
 # A part of a tool string: the names of its states and a rate for each (from, to) of them.
 Part = namedtuple("Part", "states moves")
@@ -112,6 +113,15 @@ def first_fault():
     states, moves, labels = gun_parts()
     restarts = {(state, state): 1_300 for state in states if labels["power"](state)}
     return Sheet(states, {**moves, **restarts}, labels, "P <= 120000000 X ! collar", told_parts)
+
+
+def after_workshop(formula):
+    """The gun string after a visit to the workshop, which left two figures: a new seal of the collar locator may leak, and a locator that has failed
+    can be reseated while power is up. They were added at the foot, the first to rates that stand above already."""
+    states, moves, labels = gun_parts()
+    leaks = [(state, state._replace(collar="failed"), 600) for state in states if labels["collar"](state)]
+    reseated = [(state, state._replace(collar="good"), 500_000) for state in states if labels["power"](state) and not labels["collar"](state)]
+    return Sheet(states, moves, labels, formula, told_parts, leaks + reseated)
 
 
 def redundant_string(formula):
@@ -209,6 +219,7 @@ SHEETS = {
     "small": small(),
     "gun-string": gun_string("P <= 10000000 U 8.25 power lost"),
     "first-fault": first_fault(),
+    "after-workshop": after_workshop("P <= 10000000 U 8.25 power lost"),
     "not-before-settled": gun_string("P >= 990000000 V 2 8.25 power & collar gamma"),
     "redundant-string": redundant_string("P <= 150000000 U 72 & power modem P > 2000000 U 8 & power modem ! depth"),
     "whole-again": redundant_string("P > 0 U 0.25 & power modem whole"),
@@ -226,6 +237,7 @@ def texts(sheet):
     """The files of a sheet, as name: bytes."""
     number = {state: at for at, state in enumerate(sheet.states)}
     moves = sorted((number[before], number[after], rate) for (before, after), rate in sheet.moves.items())
+    moves += [(number[before], number[after], rate) for before, after, rate in sheet.foot]
     marks = [[holds(state) for holds in sheet.labels.values()] for state in sheet.states]
     told = "".join(f"{at}: {sheet.told(state)}\n" for at, state in enumerate(sheet.states))
     typed = moves_text(moves), labels_text(map(str.encode, sheet.labels), marks), sheet.formula.encode() + b"\n"

@@ -1,9 +1,11 @@
 /* Checks the sheet in a folder with the static library and prints what the program prints: the report, or `refused` and the number.
+ * With --copy it prints the clean copy of the moves in the place of a report.
  *
  * library/README.md has the command that builds it.
  */
 #include <inttypes.h>
 #include <stdio.h>
+#include <string.h>
 
 #include "sebdyqul.h"
 
@@ -22,6 +24,7 @@ static uint32_t lower[SEBDYQUL_RESULTS], upper[SEBDYQUL_RESULTS];
 static uint16_t order[SEBDYQUL_RESULTS];
 static uint8_t verdicts[SEBDYQUL_RESULTS], marks[SEBDYQUL_MARKS];
 static uint64_t words[SEBDYQUL_WORDS], vectors[SEBDYQUL_VECTORS];
+static uint8_t copy[SEBDYQUL_COPY];
 
 /* Reads a file of the folder; one that cannot be opened counts as empty. */
 static void read_text(struct text *text, const char *folder, const char *name)
@@ -74,15 +77,9 @@ static void print_report(uint64_t depth)
         print_row(order[place], depth);
 }
 
-int main(int count, char **arguments)
+/* Checks the job and prints its report where it is accepted; answers with the number of its refusal. */
+static uint64_t check(void)
 {
-    if (count != 2) {
-        fputs("usage: example-c FOLDER\n", stderr);
-        return 2;
-    }
-    read_text(&moves, arguments[1], "moves.txt");
-    read_text(&labels, arguments[1], "labels.txt");
-    read_text(&formula, arguments[1], "formula.txt");
     uint64_t depth = 0;
     uint64_t number = sebdyqul_check(
         moves.bytes, moves.length, labels.bytes, labels.length, formula.bytes, formula.length,
@@ -90,7 +87,32 @@ int main(int count, char **arguments)
         words, SEBDYQUL_WORDS, vectors, SEBDYQUL_VECTORS, marks, SEBDYQUL_MARKS, &depth);
     if (number == 0)
         print_report(depth);
-    else
+    return number;
+}
+
+/* Copies the moves and prints the copy where they are accepted; answers with the number of the refusal. */
+static uint64_t copy_moves(void)
+{
+    uint64_t length = 0;
+    uint64_t number = sebdyqul_copy(moves.bytes, moves.length, labels.bytes, labels.length, copy, SEBDYQUL_COPY, &length);
+    if (number == 0)
+        fwrite(copy, 1, length, stdout);
+    return number;
+}
+
+int main(int count, char **arguments)
+{
+    int copies = count == 3 && strcmp(arguments[1], "--copy") == 0;
+    if (count != 2 + copies) {
+        fputs("usage: example-c [--copy] FOLDER\n", stderr);
+        return 2;
+    }
+    const char *folder = arguments[1 + copies];
+    read_text(&moves, folder, "moves.txt");
+    read_text(&labels, folder, "labels.txt");
+    read_text(&formula, folder, "formula.txt");
+    uint64_t number = copies ? copy_moves() : check();
+    if (number != 0)
         printf("refused\n%" PRIu64 "\n", number);
     return fflush(stdout) == 0 ? 0 : 1;
 }

@@ -1,10 +1,11 @@
 //! Checks the sheet in a folder with the static library and prints what the program prints: the report, or `refused` and the number.
+//! With --copy it prints the clean copy of the moves in the place of a report.
 //!
 //! library/README.md has the command that builds it.
 
 mod sebdyqul;
 
-use sebdyqul::{Answer, Lent, MARKS, NO, RESULTS, UNDECIDED, VECTORS, WORDS, YES};
+use sebdyqul::{Answer, Lent, COPY, MARKS, NO, RESULTS, UNDECIDED, VECTORS, WORDS, YES};
 use std::io::{BufWriter, Result, Write};
 use std::path::Path;
 
@@ -81,18 +82,41 @@ fn print_report(out: &mut impl Write, buffers: &Buffers, states: usize, depth: u
     print_listing(out, buffers, buffers.order[..states].iter().map(|&state| state.into()), depth)
 }
 
-fn main() -> Result<()> {
-    let arguments: Vec<_> = std::env::args_os().collect();
-    let [_, folder] = arguments.as_slice() else {
-        eprintln!("usage: example-rs FOLDER");
-        std::process::exit(2);
-    };
-    let [moves, labels, formula] = ["moves.txt", "labels.txt", "formula.txt"].map(|name| read_text(Path::new(folder), name));
+/// Prints a refusal.
+fn print_refusal(out: &mut impl Write, number: u64) -> Result<()> {
+    writeln!(out, "refused\n{number}")
+}
+
+/// Checks the job in a folder and prints its report or its refusal.
+fn check(out: &mut impl Write, folder: &Path) -> Result<()> {
+    let [moves, labels, formula] = ["moves.txt", "labels.txt", "formula.txt"].map(|name| read_text(folder, name));
     let mut buffers = Buffers::new();
-    let mut out = BufWriter::new(std::io::stdout().lock());
     match sebdyqul::check(&moves, &labels, &formula, buffers.lend()) {
-        Answer::Accepted { depth } => print_report(&mut out, &buffers, states(&labels), depth)?,
-        Answer::Refused(number) => writeln!(out, "refused\n{number}")?,
+        Answer::Accepted { depth } => print_report(out, &buffers, states(&labels), depth),
+        Answer::Refused(number) => print_refusal(out, number),
+    }
+}
+
+/// Copies the moves in a folder and prints the copy or the refusal.
+fn copy(out: &mut impl Write, folder: &Path) -> Result<()> {
+    let [moves, labels] = ["moves.txt", "labels.txt"].map(|name| read_text(folder, name));
+    let mut bytes = vec![0; COPY];
+    match sebdyqul::copy(&moves, &labels, &mut bytes) {
+        Ok(length) => out.write_all(&bytes[..length]),
+        Err(number) => print_refusal(out, number),
+    }
+}
+
+fn main() -> Result<()> {
+    let arguments: Vec<_> = std::env::args_os().skip(1).collect();
+    let mut out = BufWriter::new(std::io::stdout().lock());
+    match arguments.as_slice() {
+        [folder] => check(&mut out, Path::new(folder))?,
+        [word, folder] if word == "--copy" => copy(&mut out, Path::new(folder))?,
+        _ => {
+            eprintln!("usage: example-rs [--copy] FOLDER");
+            std::process::exit(2);
+        }
     }
     out.flush()
 }

@@ -1,7 +1,7 @@
-//! Sebdyqul for Rust programs: one safe function over what `sebdyqul.h` declares.
+//! Sebdyqul for Rust programs: a safe function over each that `sebdyqul.h` declares.
 //!
 //! Slices and exclusive borrows are all that the header asks of a caller: each leads to as many elements as it has, is aligned, and none
-//! that is written to overlaps another. So no call of `check` can be a wrong one.
+//! that is written to overlaps another. So no call of `check` or `copy` can be a wrong one.
 
 /// Lengths that are enough for every job. A job with n states, m move lines and k nodes in its formula needs n results (lower, upper,
 /// verdicts and order), 2 × m words, 10 × n + 512 vectors and k × n marks.
@@ -9,6 +9,9 @@ pub const RESULTS: usize = 512;
 pub const WORDS: usize = 8_192;
 pub const VECTORS: usize = 5_632;
 pub const MARKS: usize = 32_768;
+
+/// A length that is enough for every copy; no copy is longer than the moves text that it is made of.
+pub const COPY: usize = 61_440;
 
 /// What a byte of `verdicts` says.
 pub const NO: u8 = 0;
@@ -33,7 +36,7 @@ pub enum Answer {
     /// first: by falling lower end, equal ones by rising number. The report's lines show this depth: 0 where the outermost node is no until,
     /// and of one between two times, `V`, the sum over its two phases.
     Accepted { depth: u64 },
-    /// The number of the refusal, 1 to 16 but never 7; 16 is a `V` whose first time exceeds the second. What was lent is as it was.
+    /// The number of the refusal, 1 to 16 but never 7 or 8; 16 is a `V` whose first time exceeds the second. What was lent is as it was.
     Refused(u64),
 }
 
@@ -51,9 +54,16 @@ extern "C" {
         marks: *mut u8, marks_length: usize,
         depth: *mut u64,
     ) -> u64;
+    fn sebdyqul_copy(
+        moves: *const u8, moves_length: usize,
+        labels: *const u8, labels_length: usize,
+        copy: *mut u8, copy_length: usize,
+        length: *mut u64,
+    ) -> u64;
 }
 
-/// Checks a job: a moves text, a labels text and a formula, as bytes.
+/// Checks a job: a moves text, a labels text and a formula, as bytes. The lines of the moves text may stand in any order, and the rates of a
+/// pair of states that stands on several lines are added together.
 pub fn check(moves: &[u8], labels: &[u8], formula: &[u8], lent: Lent<'_>) -> Answer {
     let mut depth = 0;
     // SAFETY: each pointer and length is that of a slice, so it is not null, aligned, and leads to so many elements; those that are
@@ -76,6 +86,20 @@ pub fn check(moves: &[u8], labels: &[u8], formula: &[u8], lent: Lent<'_>) -> Ans
     match number {
         0 => Answer::Accepted { depth },
         _ => Answer::Refused(number),
+    }
+}
+
+/// Makes the clean copy of a moves text at the front of `copy` and says how long it is: a line for each pair of states, pairs rising. Nothing
+/// beyond it has changed. Otherwise the number of the refusal: 1 to 6 or 9, or 17 where `copy` is too short; then `copy` is as it was.
+pub fn copy(moves: &[u8], labels: &[u8], copy: &mut [u8]) -> Result<usize, u64> {
+    let mut length = 0;
+    // SAFETY: as for `check`.
+    let number = unsafe {
+        sebdyqul_copy(moves.as_ptr(), moves.len(), labels.as_ptr(), labels.len(), copy.as_mut_ptr(), copy.len(), &mut length)
+    };
+    match number {
+        0 => Ok(length as usize),
+        _ => Err(number),
     }
 }
 
@@ -124,5 +148,39 @@ mod tests {
     fn the_worst_state_stands_first() {
         assert_eq!(checked([2, 2, 2, 4, 2, 532, 6]).1, [1, 0, 7, 7]);
         assert_eq!(checked([1, 2, 2, 4, 2, 532, 6]).1, [7; 4]);
+    }
+
+    /// Moves as they were added one after the other, and their clean copy.
+    const TYPED: &[u8] = b"from,to,rate\n1,0,7\n0,1,400\n0,1,100\n";
+    const CLEAN: &[u8] = b"from,to,rate\n0,1,500\n1,0,7\n";
+
+    /// What copying these moves ends with where so many bytes are lent, and what the lent bytes then hold.
+    fn copied(moves: &[u8], lent: usize) -> (Result<usize, u64>, Vec<u8>) {
+        let mut bytes = vec![7; lent];
+        (copy(moves, JOB[1], &mut bytes), bytes)
+    }
+
+    #[test]
+    fn a_copy_changes_nothing_beyond_itself() {
+        for more in [0, 1, 40] {
+            let (answer, bytes) = copied(TYPED, CLEAN.len() + more);
+            assert_eq!(answer, Ok(CLEAN.len()));
+            assert_eq!(bytes, [CLEAN, &vec![7; more]].concat());
+        }
+    }
+
+    #[test]
+    fn a_copy_of_a_copy_is_the_copy() {
+        assert_eq!(copied(CLEAN, COPY).1[..CLEAN.len()], *CLEAN);
+        assert_eq!(copied(JOB[0], JOB[0].len()), (Ok(JOB[0].len()), JOB[0].to_vec()));
+    }
+
+    #[test]
+    fn a_refused_copy_changes_nothing() {
+        for lent in 0..CLEAN.len() {
+            assert_eq!(copied(TYPED, lent), (Err(17), vec![7; lent]));
+        }
+        assert_eq!(copied(b"from,to,rate\n0,1,500\n0,1,0\n", COPY), (Err(9), vec![7; COPY]));
+        assert_eq!(copied(b"", 0), (Err(1), vec![]));
     }
 }

@@ -1,14 +1,16 @@
-"""python3 -m reckoning judge|refusal|ends DIR
+"""python3 -m reckoning judge|refusal|ends|copy DIR
 
 judge    reads a print, both listings, from standard input: `allowed`, or its faults and status 1, or status 2
 refusal  the refusal number, or `accepted`
 ends     what the rules leave for the report
+copy     the clean copy of the moves, or `refused` and the number; it looks at no formula
 DIR holds moves.txt, labels.txt and formula.txt; a file that cannot be opened counts as empty.
 """
 
 import sys
 from pathlib import Path
 
+from .copying import printed_copy
 from .judge import CANNOT_TELL, allowed_ends, judge
 from .refusal import refusal
 
@@ -50,7 +52,13 @@ def run_ends(texts):
     return 0
 
 
-COMMANDS = {"judge": run_judge, "refusal": run_refusal, "ends": run_ends}
+def run_copy(texts):
+    moves, labels, _ = texts
+    sys.stdout.buffer.write(printed_copy(moves, labels))
+    return 0
+
+
+COMMANDS = {"judge": run_judge, "refusal": run_refusal, "ends": run_ends, "copy": run_copy}
 
 
 def main(arguments):

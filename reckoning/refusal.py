@@ -1,4 +1,4 @@
-"""Turned-back jobs: the ordered list of tests, and the job that passes them all."""
+"""Turned-back jobs and sheets: the ordered list of tests, and what passes them all."""
 
 from collections import Counter, namedtuple
 from functools import cached_property
@@ -12,12 +12,11 @@ from .limits import (FORMULA_BYTES, VECTOR_SPARE, MOST_HUNDREDTHS, MOST_LEVELS, 
 Lent = namedtuple("Lent", "lower upper verdicts order moves vectors marks")
 
 
-class Job:
-    """The three texts, and what is read of them once the tests below have let it through."""
+class Sheet:
+    """A moves and a labels text, and what is read of them once the tests below have let them through."""
 
-    def __init__(self, moves, labels, formula, lent=None):
-        self.moves_text, self.labels_text, self.formula_text = moves, labels, formula
-        self.lent = lent
+    def __init__(self, moves, labels):
+        self.moves_text, self.labels_text = moves, labels
 
     @cached_property
     def move_lines(self):
@@ -37,15 +36,12 @@ class Job:
 
     @cached_property
     def moves(self):
+        """The lines of moves as they stand: (from, to, rate), in any order, a pair perhaps several times."""
         return [tuple(int(part) for part in texts.fields(line)) for line in self.move_lines[1:]]
 
     @cached_property
-    def tree(self):
-        """None where the formula breaks the grammar."""
-        return f.read_formula(self.formula_text)
-
-    @cached_property
     def chain(self):
+        """Of lines in any order, "repeated pairs are added together"."""
         rates = Counter()
         for source, target, rate in self.moves:
             rates[source, target] += rate
@@ -54,45 +50,62 @@ class Job:
         return Chain(len(self.state_rows), dict(rates), marks)
 
 
+class Job(Sheet):
+    """The three texts and the lent lengths."""
+
+    def __init__(self, moves, labels, formula, lent=None):
+        super().__init__(moves, labels)
+        self.formula_text, self.lent = formula, lent
+
+    @cached_property
+    def tree(self):
+        """None where the formula breaks the grammar."""
+        return f.read_formula(self.formula_text)
+
+
+def wrong_size(text, most):
+    """Whether a text is empty or over its byte limit."""
+    return not 0 < len(text) <= most
+
+
+def empty_or_long_sheet(sheet):
+    return wrong_size(sheet.moves_text, SHEET_BYTES) or wrong_size(sheet.labels_text, SHEET_BYTES)
+
+
 def empty_or_long(job):
-    sizes = (job.moves_text, SHEET_BYTES), (job.labels_text, SHEET_BYTES), (job.formula_text, FORMULA_BYTES)
-    return any(not 0 < len(text) <= most for text, most in sizes)
+    return empty_or_long_sheet(job) or wrong_size(job.formula_text, FORMULA_BYTES)
 
 
-def broken_line(job):
-    if not (texts.ends_in_line_feed(job.moves_text) and texts.ends_in_line_feed(job.labels_text)):
+def broken_line(sheet):
+    if not (texts.ends_in_line_feed(sheet.moves_text) and texts.ends_in_line_feed(sheet.labels_text)):
         return True
-    width = len(texts.fields(job.label_lines[0]))
-    return (not all(map(texts.is_move_line, job.move_lines[1:]))
-            or not all(texts.is_state_line(line, width) for line in job.label_lines[1:]))
+    width = len(texts.fields(sheet.label_lines[0]))
+    return (not all(map(texts.is_move_line, sheet.move_lines[1:]))
+            or not all(texts.is_state_line(line, width) for line in sheet.label_lines[1:]))
 
 
-def wrong_first_line(job):
-    return job.move_lines[0] != texts.MOVES_HEAD or not texts.is_labels_head(job.label_lines[0])
+def wrong_first_line(sheet):
+    return sheet.move_lines[0] != texts.MOVES_HEAD or not texts.is_labels_head(sheet.label_lines[0])
 
 
-def wrong_states(job):
-    count = len(job.state_rows)
-    return not 1 <= count <= MOST_STATES or any(row[0] != at for at, row in enumerate(job.state_rows))
+def wrong_states(sheet):
+    count = len(sheet.state_rows)
+    return not 1 <= count <= MOST_STATES or any(row[0] != at for at, row in enumerate(sheet.state_rows))
 
 
-def many_moves(job):
-    return len(job.moves) > MOST_MOVES
+def many_moves(sheet):
+    """Lines are counted, and not pairs."""
+    return len(sheet.moves) > MOST_MOVES
 
 
-def unknown_state(job):
-    count = len(job.state_rows)
-    return any(source >= count or target >= count for source, target, _ in job.moves)
+def unknown_state(sheet):
+    count = len(sheet.state_rows)
+    return any(source >= count or target >= count for source, target, _ in sheet.moves)
 
 
-def not_rising(job):
-    pairs = [move[:2] for move in job.moves]
-    return any(before >= after for before, after in zip(pairs, pairs[1:]))
-
-
-def wrong_rate(job):
-    """The sum has the moves to the own state in it."""
-    return any(rate == 0 for _, _, rate in job.moves) or max(job.chain.totals) > MOST_RATE
+def wrong_rate(sheet):
+    """Each line's rate and the totals of the states are looked at; these have the moves to the own state in them."""
+    return any(rate == 0 for _, _, rate in sheet.moves) or max(sheet.chain.totals) > MOST_RATE
 
 
 def broken_formula(job):
@@ -139,16 +152,19 @@ def short_buffer(job):
     return job.lent is not None and any(has < need for has, need in zip(job.lent, needed(job), strict=True))
 
 
-# Document 01's table, in the order of its tests. "7 is never given again"; "16 .. tested after 13 and before 14".
-TESTS = (
-    (1, empty_or_long),
+# Document 01's table, in the order of its tests: those of a sheet that is neither empty nor too long, and all of a job. "7 is never given again";
+# "8 is never given again"; "16 .. tested after 13 and before 14".
+SHEET_TESTS = (
     (2, broken_line),
     (3, wrong_first_line),
     (4, wrong_states),
     (5, many_moves),
     (6, unknown_state),
-    (8, not_rising),
     (9, wrong_rate),
+)
+TESTS = (
+    (1, empty_or_long),
+    *SHEET_TESTS,
     (10, broken_formula),
     (11, large_formula),
     (12, unknown_name),
@@ -166,8 +182,9 @@ def refusal(moves, labels, formula, lent=None):
 
     `lent` is the seven lent lengths in the order of `Lent`; None is long enough.
     """
-    job = Job(moves, labels, formula, lent)
-    for number, holds in TESTS:
-        if holds(job):
-            return number
-    return job
+    return tested(TESTS, Job(moves, labels, formula, lent))
+
+
+def tested(tests, what):
+    """The number of the first of these tests that holds of a job or a sheet, or that job or sheet itself."""
+    return next((number for number, holds in tests if holds(what)), what)

@@ -5,12 +5,13 @@ or a limit is not settled, it raises what is in `CANNOT_TELL`; the number and th
 """
 from ctypes import sizeof
 
+from reckoning.copying import copied
 from reckoning.judge import CANNOT_TELL, judge
 from reckoning.limits import MOST_STATES
 from reckoning.refusal import needed, refusal
 from reckoning.report import Row, listing, refused, worst_first
 from reckoning.verdict import WORDS
-from tests.library import GUARD, KINDS, Memory
+from tests.library import COPY_KINDS, GUARD, KINDS, CopyMemory, Memory
 
 REPORT = ("lower", "upper", "verdicts", "order", "depth")   # what an accepted job leaves to be judged; the other buffers it leaves at 0
 NONE = Memory(*[0] * len(Memory._fields))
@@ -58,6 +59,24 @@ def wanted(name, called, count):
     start, end = (edge * sizeof(getattr(KINDS, name)) for edge in (GUARD, GUARD + count))
     before, after = getattr(called.before, name), getattr(called.after, name)
     return before[:start] + (after[start:end] if name in REPORT else bytes(end - start)) + before[end:]
+
+
+def copy_faults(sheet, called):
+    """The faults of a call that copies the moves of a sheet; all that it leaves is determined, so that each byte is looked at."""
+    copy = copied(*sheet, called.lent)
+    number = copy if isinstance(copy, int) else 0
+    if called.number != number:
+        return [f"number {called.number} of a copy, should be {number}"]
+    written = CopyMemory(b"", b"") if number else CopyMemory(copy, len(copy).to_bytes(sizeof(COPY_KINDS.length), "little"))
+    faults = [f"{name} of a copy or a guard of it is not as it should be" for name in CopyMemory._fields
+              if getattr(called.after, name) != with_front(name, called, getattr(written, name))]
+    return faults + ([] if called.texts == tuple(sheet) else ["a text has changed"])
+
+
+def with_front(name, called, front):
+    """What a buffer must hold once these bytes were put to its front: all the rest as it was."""
+    before, start = getattr(called.before, name), GUARD * sizeof(getattr(COPY_KINDS, name))
+    return before[:start] + front + before[start + len(front):]
 
 
 def order_faults(called, states):

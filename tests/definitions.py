@@ -1,9 +1,10 @@
 """Has the checker of proofs compute the definitions on concrete jobs.
 
 It writes a scratch crate outside the repository, with one equation by computation for each job, and checks it: that the job is turned back with
-its number, or accepted with its formula, q and depth. Of rows that are given it has the order and the printed text computed too.
+its number, or accepted with its formula, q and depth. Of rows that are given it has the order and the printed text computed too, and of moves and
+labels the clean copy, or the number that it is refused with.
 `python3 -m tests.definitions` tries every vector of ../shared/vectors that is small
-enough (`--bytes N`: three texts of at most N bytes together, 2,000 if not given).
+enough (`--bytes N`: three texts of at most N bytes together, 2,000 if not given), and the clean copy of its moves.
 """
 import argparse
 import pathlib
@@ -13,7 +14,8 @@ import sys
 import tempfile
 
 from reckoning import formula as f
-from reckoning.limits import MOST_MOVES, MOST_NODES, MOST_STATES
+from reckoning.copying import copied
+from reckoning.limits import MOST_MOVES, MOST_NODES, MOST_STATES, SHEET_BYTES
 from reckoning.refusal import Lent
 from reckoning.report import report_text, worst_first
 from reckoning.tests.vectors import MISSING, cases, texts_of
@@ -35,6 +37,7 @@ use Rattle.csl.specs.Verdicts.{{No, Yes, Undecided}}
 use Rattle.csl.specs.Order.{{worstFirst}}
 use Rattle.csl.specs.Report.{{depthOf, reportText}}
 use Rattle.csl.specs.Refusal.{{Job, jobChain, jobFormula, refusal}}
+use Rattle.csl.specs.Copy.{{copyText, copyRefusal}}
 use Rattle.csl.specs.Laws.Computing.{{computing}}
 
 abbrev enough : Buffers ℕ
@@ -96,6 +99,17 @@ def equation(number, job):
     return "\n".join(lines)
 
 
+def copy_equations(number, moves, labels, room=SHEET_BYTES, answer=None):
+    """The equations for a clean copy: the copy or the number that is given, by the second reckoning where none is."""
+    answer = copied(moves, labels, room) if answer is None else answer
+    texts = f"(bytes {quoted(moves)}) (bytes {quoted(labels)})"
+    lines = [f"copy-refusal-of-{number} : copyRefusal {texts} {room} ≡ {f'some {answer}' if isinstance(answer, int) else 'none'}",
+             "unfolding computing", f"copy-refusal-of-{number} = refl", ""]
+    if not isinstance(answer, int):
+        lines += [f"copy-of-{number} : copyText {texts} ≡ bytes {quoted(answer)}", "unfolding computing", f"copy-of-{number} = refl", ""]
+    return "\n".join(lines)
+
+
 VERDICTS = {NO: "No", YES: "Yes", UNDECIDED: "Undecided"}
 
 
@@ -151,7 +165,7 @@ def main():
         print(MISSING)
         return 1
     jobs = vectors(most)
-    good, printed = check(equations_of(jobs))
+    good, printed = check(equations_of(jobs) + [copy_equations(number, job["moves"], job["labels"]) for number, job in enumerate(jobs)])
     print(f"{len(jobs)} vectors: " + ("all hold" if good else "NOT ALL HOLD\n" + printed))
     return 0 if good else 1
 

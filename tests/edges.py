@@ -59,6 +59,29 @@ def rates_out(rates):
     return moves_text([(0, to, rate) for to, rate in enumerate(rates)]), labels_text([], [[]] * len(rates)), b"tt\n"
 
 
+def rates_again(total):
+    """As many lines of one pair as there may be, the fastest at the foot, whose rates add up to so much."""
+    return typed(b"0,1,1\n" * (MOST_MOVES - 1) + b"0,1,%d" % (total - MOST_MOVES + 1))
+
+
+def rates_apart(total):
+    """Lines of two pairs out of one state by turns, with those of another between them, whose rates add up to so much."""
+    half = total // 2
+    return typed(b"0,1,%d\n1,0,%d\n0,0,%d\n1,1,1\n0,1,7" % (half - 7, MOST_RATE - 1, total - half))
+
+
+def moves_again(count):
+    """So many lines of one pair."""
+    return typed(b"\n".join([b"0,1,1"] * count))
+
+
+def moves_falling(count):
+    """So many moves, the last first."""
+    rising, *others = moves(count)
+    head, *lines = rising.splitlines(keepends=True)
+    return b"".join([head, *reversed(lines)]), *others
+
+
 def restarts(total):
     """A move to the own state and one to another, whose rates add up to so much."""
     return moves_text([(0, 0, total - 500), (0, 1, 500)]), LABELS, until(MOST_HUNDREDTHS)
@@ -125,6 +148,13 @@ def move_bytes(count):
     return filled(MOVES_LINE, b"0,1,1\n", count), LABELS, b"tt\n"
 
 
+def long_moves(count):
+    """Moves that fall, on long lines, in exactly so many bytes, over as many states as there may be."""
+    lines, rest = divmod(count - len(MOVES_LINE), len(b"100,200,123456\n"))
+    pairs = [(100 + at // 10, 200 + at % 10, 1_234_567 if at < rest else 123_456) for at in range(lines)]
+    return moves_text(pairs[::-1]), labels_text([], [[]] * MOST_STATES), b"tt\n"
+
+
 def about(job, limit):
     """The job that meets a limit and the one that passes it."""
     return job(limit), job(limit + 1)
@@ -136,6 +166,8 @@ def pairs():
     return {
         "states": about(states, MOST_STATES),
         "moves": about(moves, MOST_MOVES),
+        "moves of one pair": about(moves_again, MOST_MOVES),
+        "moves that fall": about(moves_falling, MOST_MOVES),
         "names": about(names, MOST_NAMES),
         "letters": about(lambda count: named(b"a" * count), MOST_LETTERS),
         "a name tt": (named(b"t", b"ta", b"at", b"tta"), named(b"t", b"ta", b"tt")),
@@ -145,6 +177,8 @@ def pairs():
         "levels": about(levels, MOST_LEVELS),
         "nodes": about(nodes, MOST_NODES),
         "rates": about(rates, MOST_RATE),
+        "rates of one pair": about(rates_again, MOST_RATE),
+        "rates on lines apart": about(rates_apart, MOST_RATE),
         "load": about(lambda hundredths: load(MOST_RATE, hundredths), most_hundredths(MOST_RATE)),
         "load by one": (load(MOST_RATE_HUNDREDTHS // 1_600, 1_600), load(near, 1_517)),
         "hours": about(lambda hundredths: load(1, hundredths), MOST_HUNDREDTHS),
@@ -175,6 +209,7 @@ def pairs():
         "formula bytes": about(formula_bytes, FORMULA_BYTES),
         "bytes of labels": about(label_bytes, SHEET_BYTES),
         "bytes of moves": about(move_bytes, SHEET_BYTES),
-        "a restart again": (typed(b"0,0,1\n0,1,1"), typed(b"0,0,1\n0,0,1")),
+        "bytes of moves on long lines": about(long_moves, SHEET_BYTES),
+        "a rate on each line": (typed(b"0,0,1\n0,1,1\n0,0,1"), typed(b"0,0,1\n0,1,1\n0,0,0")),
         "no state": ((NO_MOVES, b"state\n0\n", b"tt\n"), (NO_MOVES, b"state\n", b"tt\n")),
     }

@@ -14,6 +14,7 @@ from reckoning.limits import SHEET_BYTES
 from reckoning.tests.vectors import MISSING, texts_of
 from tests import edges
 from tests.agreement import library_faults, tried
+from tests.copies import sheet_faults
 from tests.coverage import Covered
 from tests.definitions import vectors
 from tests.jobs import random_job
@@ -60,16 +61,16 @@ class Fuzzer:
         return Reached(self.executions, len(self.library.blocks), self.by_seeds, self.seen, len(self.corpus), seconds)
 
     def attempt(self, job, lent):
-        """Tries a job and answers with its faults."""
+        """Tries a job, and a copy of its moves, and answers with the faults."""
         self.record.write(job, lent)
-        called = self.library.check(job, lent)
+        called, copying = self.library.check(job, lent), sheet_faults(self.library, job[:2])
         self.executions += 1
         seen = self.library.seen()
         if seen > self.seen:
             self.seen = seen
             self.corpus.append(job)
             self.weights.append(1 / (FAVOURED_BYTES + sum(map(len, job))))
-        return tried(library_faults, job, called, MOST_STATES)
+        return tried(library_faults, job, called, MOST_STATES) or copying
 
     def begin(self):
         """Tries the seeds; those that reach something new are the first corpus."""

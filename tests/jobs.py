@@ -9,6 +9,7 @@ from reckoning.graph import EXTREMES
 from reckoning.limits import BILLION, HOUR, MOST_HUNDREDTHS, MOST_LETTERS, MOST_LOAD, MOST_RATE, RATE_HUNDREDTHS, most_hundredths
 from reckoning.pairs import Pair
 from reckoning.sheets import labels_text, moves_text
+from reckoning.tests.lines import lines_for
 
 NAMES = [b"up", b"dead", b"power", b"gamma", b"locator", b"gun", b"wet", b"hot", b"t", b"ta", b"tta", b"s", b"stat", b"states",
          b"abcdefghijklmnopqrstuvwxyz"[:MOST_LETTERS]]
@@ -16,7 +17,7 @@ TELLING = b"0123456789,.\n aPUVX!&tx<=>z/:`{+-\x1f\r\t\x00\x8a\xff"    # bytes t
 
 
 class Sheet:
-    """A random chain with its two texts."""
+    """A random chain with its two texts: `moves` rise and none stands twice, and the moves text has lines typed for them, in any order."""
 
     def __init__(self, rng, most_states=6):
         self.states = rng.randint(1, most_states)
@@ -24,7 +25,7 @@ class Sheet:
         self.rows = [[rng.randint(0, 1) for _ in self.names] for _ in range(self.states)]
         self.moves = self.random_moves(rng)
         self.chain = Chain(self.states, {(a, b): rate for a, b, rate in self.moves}, {})
-        self.moves_text = moves_text(self.moves)
+        self.moves_text = moves_text(lines_for(rng, self.moves))
         self.labels_text = labels_text(self.names, self.rows)
 
     def random_moves(self, rng):

@@ -1,8 +1,8 @@
 """The static library from Python, called with lent buffers of given lengths.
 
-Each lent buffer, and the place of the depth, is filled with a pattern and has guard elements, of the pattern too, before and after the lent
-part. A call answers with all of it as it was and as it is, so that a test can say of each byte whether it may have changed. Each text ends
-where the process has no more memory.
+Each lent buffer, and the place of the depth or of a copy's length, is filled with a pattern and has guard elements, of the pattern too, before
+and after the lent part. A call answers with all of it as it was and as it is, so that a test can say of each byte whether it may have changed.
+Each text ends where the process has no more memory.
 """
 import ctypes
 import random
@@ -10,25 +10,31 @@ import subprocess
 import sys
 from collections import namedtuple
 
-from reckoning.limits import MOST_MOVES, MOST_NODES, MOST_STATES
+from reckoning.limits import MOST_MOVES, MOST_NODES, MOST_STATES, SHEET_BYTES
 from reckoning.refusal import Lent, lengths
 from tests.fenced import Fenced
 from tests.places import ARCHIVE, ROOT, TARGET, is_stale
 
 SHARED = TARGET / "library" / "libsebdyqul.so"
 
-# All that a call writes to: the seven lent buffers, and the depth as an eighth.
+# All that a check writes to: the seven lent buffers, and the depth as an eighth.
 Memory = namedtuple("Memory", (*Lent._fields, "depth"))
 NUMBER, BYTE, STATE, WORD = ctypes.c_uint32, ctypes.c_uint8, ctypes.c_uint16, ctypes.c_uint64
 KINDS = Memory(lower=NUMBER, upper=NUMBER, verdicts=BYTE, order=STATE, moves=WORD, vectors=WORD, marks=BYTE, depth=WORD)
 
+# All that a call which copies writes to.
+CopyMemory = namedtuple("CopyMemory", "copy length")
+COPY_KINDS = CopyMemory(copy=BYTE, length=WORD)
+
 ENOUGH = lengths(MOST_STATES, MOST_MOVES, MOST_NODES)           # for every job
+COPY = SHEET_BYTES          # bytes that are enough for every copy
 GUARD = 67                  # elements, an odd number: no lent part is aligned for more than its own type
 MORE = 64                   # elements that can be lent beyond `ENOUGH`
 PATTERN = 1 << 20           # bytes
 TEXT = 1 << 20              # bytes that a text may have
 
-# What a call did: its answer, the lent lengths, the bytes of the memory with its guards before and after, and the texts after.
+# What a call did: its answer, the lent lengths (of a copy the one length), the bytes of the memory with its guards before and after, and the
+# texts after.
 Called = namedtuple("Called", "number lent before after texts")
 
 
@@ -79,26 +85,43 @@ class Library:
 
     def __init__(self, shared=None, seed=4):
         self.shared = ctypes.CDLL(str(shared or build()))
-        self.function = self.shared.sebdyqul_check
-        self.function.restype = ctypes.c_uint64
-        self.function.argtypes = [ctypes.c_void_p, ctypes.c_size_t] * (3 + len(ENOUGH)) + [ctypes.c_void_p]
+        self.function = self.declared("sebdyqul_check", 3 + len(ENOUGH))
+        self.copying = self.declared("sebdyqul_copy", 3)
         self.texts = [Fenced(TEXT) for _ in range(3)]
         self.memory = Memory(*(Buffer(kind, most + MORE) for kind, most in zip(KINDS, (*ENOUGH, 0))))
+        self.copy_memory = CopyMemory(*(Buffer(kind, most + MORE) for kind, most in zip(COPY_KINDS, (COPY, 0))))
         self.rng = random.Random(seed)
         self.pattern = self.rng.randbytes(PATTERN)
+
+    def declared(self, name, slices):
+        """A function of the library that takes so many slices and then a pointer."""
+        function = getattr(self.shared, name)
+        function.restype = ctypes.c_uint64
+        function.argtypes = [ctypes.c_void_p, ctypes.c_size_t] * slices + [ctypes.c_void_p]
+        return function
 
     def part(self, length):
         """So many bytes of the pattern, from a random place on."""
         at = self.rng.randrange(PATTERN - length)
         return self.pattern[at:at + length]
 
+    def call(self, function, texts, memory, lent):
+        """Calls a function with texts and lent lengths, the last of the memory as its pointer: the answer, that memory before and after, the texts
+        after."""
+        lengths = (*lent, 1)
+        before = [buffer.fill(self.part(buffer.bytes_of(length))) for buffer, length in zip(memory, lengths)]
+        words = [word for place, text in zip(self.texts, texts) for word in (place.put(text), len(text))]
+        words += [word for buffer, length in zip(memory, lent) for word in (buffer.lent, length)]
+        number = function(*words, memory[-1].lent)
+        after = [buffer.read(length) for buffer, length in zip(memory, lengths)]
+        return number, before, after, tuple(place.read(len(text)) for place, text in zip(self.texts, texts))
+
     def check(self, job, lent=ENOUGH):
         """Calls `sebdyqul_check` for a job with buffers of these lengths."""
-        lengths = (*lent, 1)
-        before = Memory(*(buffer.fill(self.part(buffer.bytes_of(length))) for buffer, length in zip(self.memory, lengths)))
-        words = [word for place, text in zip(self.texts, job) for word in (place.put(text), len(text))]
-        words += [word for buffer, length in zip(self.memory, lent) for word in (buffer.lent, length)]
-        number = self.function(*words, self.memory.depth.lent)
-        after = Memory(*(buffer.read(length) for buffer, length in zip(self.memory, lengths)))
-        texts = tuple(place.read(len(text)) for place, text in zip(self.texts, job))
-        return Called(number, Lent(*lent), before, after, texts)
+        number, before, after, texts = self.call(self.function, job, self.memory, lent)
+        return Called(number, Lent(*lent), Memory(*before), Memory(*after), texts)
+
+    def copy(self, sheet, room=COPY):
+        """Calls `sebdyqul_copy` for a moves and a labels text with a buffer of this length."""
+        number, before, after, texts = self.call(self.copying, sheet, self.copy_memory, [room])
+        return Called(number, room, CopyMemory(*before), CopyMemory(*after), texts)

@@ -11,6 +11,7 @@ from reckoning.limits import (BILLION, FORMULA_DIGITS, HOUR, MOST_HUNDREDTHS, MO
                               SPARE_STEPS)
 from reckoning.refusal import Lent, needed, refusal
 from reckoning.sheets import moves_text
+from reckoning.tests.lines import drawn, lines_for
 from tests.jobs import damaged, random_job
 from tests.library import ENOUGH, MORE
 
@@ -71,11 +72,21 @@ def with_times(rng, text):
     return TIMED.sub(other, text)
 
 
+def read_moves(text):
+    """The moves of a made moves text, as (from, to, rate)."""
+    return [tuple(map(int, line.split(b","))) for line in text.split(b"\n")[1:-1]]
+
+
+def with_other_lines(rng, text):
+    """The moves of a made moves text typed otherwise, and some typed again, which adds to their rates."""
+    moves = read_moves(text)
+    return moves_text(lines_for(rng, moves + rng.choice([[], moves[:1], moves])))
+
+
 def with_great_rates(rng, text):
     """The rates of a made moves text replaced by great ones: five out of one state add up to a little more than 32 bits hold."""
     sums, moves = Counter(), []
-    for line in text.split(b"\n")[1:-1]:
-        state, other, _ = map(int, line.split(b","))
+    for state, other, _ in read_moves(text):
         rate = min(BILLION - 1, MOST_SUM + rng.randint(1, MOST_RATE) - sums[state])
         moves.append((state, other, max(1, rate)))
         sums[state] += moves[-1][2]
@@ -100,6 +111,12 @@ def with_lines_again(rng, text):
     return b"".join(lines[:at + 1] + more + lines[at + 1:])
 
 
+def with_lines_drawn(rng, text):
+    """The lines of a text in another order, but for the first."""
+    head, *lines = text.splitlines(keepends=True)
+    return b"".join([head, *drawn(rng, lines)])
+
+
 def spliced(rng, one, other):
     """The beginning of a text and the end of another, cut between lines, tokens or bytes."""
     pattern = rng.choice([rb"\n", rb"[, \n]", rb""])
@@ -112,7 +129,7 @@ def mutated(rng, job, other):
     texts = list(job)
     for _ in range(rng.randint(1, MOST_CHANGES)):
         which = rng.choice([0, 1, 2, 2])
-        kind = rng.choice(["damage", "token", "number", "number", "more", "splice", "take"])
+        kind = rng.choice(["damage", "token", "number", "number", "more", "splice", "take", "order"])
         if kind == "take":
             texts[which] = other[which]
         elif kind == "splice":
@@ -121,16 +138,19 @@ def mutated(rng, job, other):
             texts[which] = damaged(rng, texts[which])
         elif kind in ("token", "number"):
             texts[which] = (with_token if kind == "token" else with_number)(rng, texts[which])
+        elif kind == "order":
+            texts[0] = with_lines_drawn(rng, texts[0] or b"\n")
         else:
             texts[which] = (with_operators if which == 2 else with_lines_again)(rng, texts[which])
     return tuple(texts)
 
 
 def bent_job(rng):
-    """A made job whose layout is kept, so that it is the later tests that it fails, or none: numbers or times replaced, or operators put into the
-    formula."""
+    """A made job whose layout is kept, so that it is the later tests that it fails, or none: numbers or times replaced, lines typed otherwise or
+    again, or operators put into the formula."""
     texts = list(random_job(rng))
-    which, bend = rng.choice([(0, with_number), (0, with_great_rates), (2, with_number), (2, with_operators), (2, with_extremes), (2, with_times)])
+    which, bend = rng.choice([(0, with_number), (0, with_great_rates), (0, with_other_lines), (2, with_number), (2, with_operators),
+                              (2, with_extremes), (2, with_times)])
     texts[which] = bend(rng, texts[which])
     return tuple(texts)
 

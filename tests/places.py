@@ -4,6 +4,7 @@ from pathlib import Path
 ROOT = Path(__file__).resolve().parent.parent
 TARGET = ROOT / "target"
 PROGRAM = TARGET / "bin" / "sheetcheck"
+COPIER = TARGET / "bin" / "sheetcopy"
 DEEP = TARGET / "bin" / "deep_formulas"
 ARCHIVE = TARGET / "staticlib" / "libsebdyqul.a"
 EXAMPLES = ROOT / "examples"

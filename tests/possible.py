@@ -3,6 +3,7 @@ from collections import namedtuple
 
 from reckoning.limits import BILLION, MOST_RATE
 from reckoning.sheets import labels_text, moves_text
+from reckoning.tests.lines import lines_for
 from tests.ways import BOUNDS, SHORT
 
 NAMES = [b"up", b"dead", b"hot"]
@@ -15,14 +16,14 @@ FAST = Speed(MOST_RATE, [b"0", b"0.5", b"1"], [(b">=", BILLION), (b"<", BILLION)
 
 
 def drawn_job(rng):
-    """A drawn sheet, most of whose moves lead on to the next state, and a question with the threshold 0 or 1,000,000,000."""
+    """A drawn sheet, most of whose moves lead on to the next state, with lines in any order, and a question with the threshold 0 or 1,000,000,000."""
     states, speed = rng.randint(3, 7), rng.choice([SLOW, FAST])
     moves = []
     for s in range(states):
         targets = [to for to in range(states) if rng.random() < (0.9 if to == s + 1 else 0.05)]
         moves += [(s, to, speed.exit_rate // len(targets) or 1) for to in targets]
     marks = [[rng.random() < holds for holds in (0.9, 0.2, 0.5)] for _ in range(states)]
-    return moves_text(moves), labels_text(NAMES, marks), drawn_question(rng, speed, levels=3) + b"\n"
+    return moves_text(lines_for(rng, moves)), labels_text(NAMES, marks), drawn_question(rng, speed, levels=3) + b"\n"
 
 
 def drawn_question(rng, speed, levels):

@@ -1,18 +1,25 @@
-"""Many jobs, made and damaged from a seed, put to the static library and every so often to the program, and judged by the second reckoning."""
+"""Many jobs, made and damaged from a seed, put to the static library and every so often to the program, and judged by the second reckoning.
+
+Every so often the moves are copied too, and the copy is put to the library in their place.
+"""
 import random
 import time
 from collections import Counter, namedtuple
 
+from reckoning.copying import printed_copy
 from reckoning.limits import MOST_LOAD
 from reckoning.refusal import BY_TEXTS, SHORT
+from tests import copies
 from tests.agreement import library_faults, printed, tried
 from tests.jobs import damaged_job, random_job
 from tests.library import ENOUGH
 from tests.mutations import bent_job, mutated, some_lent
+from tests.places import COPIER
 from tests.possible import drawn_job
 from tests.program import run
 
 PROGRAM_EVERY = 25          # jobs
+COPY_EVERY = 5              # jobs whose moves are copied
 LENT_EVERY = 3              # jobs with lent lengths of their own
 SAID_EVERY = 10             # seconds
 
@@ -35,15 +42,19 @@ def some_job(rng):
 
 
 def program_faults(job, called):
-    """The faults of what the program prints, where the library was lent enough for the same job."""
+    """The faults of what the program prints, where the library was lent enough for the same job, and of what the one prints that copies."""
     said = printed(called, job[1].count(b"\n") - 1)
-    return [] if run(job) == said else ["the program prints something else than the library says"]
+    if run(job) != said:
+        return ["the program prints something else than the library says"]
+    return [] if run(job, command=(COPIER,)) == printed_copy(*job[:2]) else ["the program that copies prints another copy or number"]
 
 
-def try_job(library, job, lent, by_program):
-    """What the library did, and the faults of it and of the program; None where the second reckoning gives up."""
+def try_job(library, job, lent, by_program, copy=True):
+    """What the library did, and the faults of it, of a copy of the moves and of the programs; None where the second reckoning gives up."""
     called = library.check(job, lent)
     faults = tried(library_faults, job, called)
+    if copy and not faults:
+        faults = copies.job_faults(library, job) or faults
     if by_program and not faults:
         faults = program_faults(job, called) or faults
     return called, faults
@@ -53,10 +64,10 @@ def soak(count, seed, library, say=print):
     """Tries so many jobs, and stops at the first that there are faults with."""
     rng, counts, said = random.Random(seed), Counter(), time.monotonic()
     for at in range(1, count + 1):
-        job, by_program = some_job(rng), at % PROGRAM_EVERY == 0
+        job, by_program, copy = some_job(rng), at % PROGRAM_EVERY == 0, at % COPY_EVERY == 0
         lent = some_lent(rng, job) if at % LENT_EVERY == 0 and not by_program else ENOUGH
-        called, faults = try_job(library, job, lent, by_program)
-        counts.update(["jobs", called.number] + ["by the program"] * by_program + ["given up"] * (faults is None))
+        called, faults = try_job(library, job, lent, by_program, copy)
+        counts.update(["jobs", called.number] + ["by the program"] * by_program + ["copied"] * copy + ["given up"] * (faults is None))
         if faults:
             return Ended(counts, job, lent, faults)
         if time.monotonic() - said >= SAID_EVERY:
@@ -68,5 +79,5 @@ def soak(count, seed, library, say=print):
 def told(counts):
     """The counts in a line."""
     refused = ", ".join(f"{number}: {counts[number]}" for number in sorted({*BY_TEXTS, SHORT}) if counts[number])
-    return (f"{counts['jobs']} jobs, {counts['by the program']} of them by the program too; {counts[0]} accepted; refused {refused or 'none'}; "
-            f"{counts['given up']} given up by the judge")
+    return (f"{counts['jobs']} jobs, {counts['by the program']} of them by the program too, {counts['copied']} with a copy of their moves; "
+            f"{counts[0]} accepted; refused {refused or 'none'}; {counts['given up']} given up by the judge")

@@ -3,10 +3,11 @@ import unittest
 from ctypes import sizeof
 from itertools import permutations
 
+from reckoning.copying import copied
 from reckoning.refusal import needed, refusal
-from reckoning.sheets import FORMULA, LABELS, MOVES, REPORT, labels_text, moves_text
-from tests.agreement import elements, library_faults, printed
-from tests.library import GUARD, KINDS, Library, Memory
+from reckoning.sheets import FORMULA, LABELS, MOVES, MOVES_LINE, REPORT, labels_text, moves_text
+from tests.agreement import copy_faults, elements, library_faults, printed
+from tests.library import COPY_KINDS, GUARD, KINDS, CopyMemory, Library, Memory
 
 SHEET = moves_text([(0, 1, 500), (1, 2, 700)]), labels_text([b"up", b"dead"], [[1, 0], [1, 0], [0, 1]])
 TIES = *SHEET, b"up\n"     # 1, 1 and 0: the order is that of the numbers
@@ -102,6 +103,54 @@ class Falsified(unittest.TestCase):
         told = library_faults(ACCEPTED, changed(self.accepted, "verdicts", GUARD))
         self.assertEqual(len(told), 1)
         self.assertIn("verdict", told[0])
+
+
+class FalsifiedCopies(unittest.TestCase):
+    TYPED = moves_text([(1, 2, 700), (0, 1, 400), (0, 1, 100)]), SHEET[1]
+    ROOM = 60
+
+    def setUp(self):
+        library, self.copy = Library(), SHEET[0]
+        self.made, self.short = library.copy(self.TYPED, self.ROOM), library.copy(self.TYPED, len(self.copy) - 1)
+        self.refused = library.copy((MOVES_LINE, b""), self.ROOM)
+
+    def told(self, called, sheet=TYPED):
+        return copy_faults(sheet, called)
+
+    def test_the_calls_themselves_have_no_faults(self):
+        self.assertEqual(copied(*self.TYPED), self.copy)
+        self.assertEqual([each.number for each in (self.made, self.short, self.refused)], [0, 17, 1])
+        self.assertEqual((self.told(self.made), self.told(self.short), self.told(self.refused, (MOVES_LINE, b""))), ([], [], []))
+
+    def test_numbers(self):
+        for number in range(1, 18):
+            self.assertEqual(self.told(self.made._replace(number=number)), [f"number {number} of a copy, should be 0"])
+        for number in range(17):
+            self.assertEqual(self.told(self.short._replace(number=number)), [f"number {number} of a copy, should be 17"])
+
+    def test_every_byte(self):
+        """Of the copy, of what is behind it, of the length and of all guards, after a copy and after a refusal."""
+        for called in (self.made, self.short):
+            for name in CopyMemory._fields:
+                for at in range(len(getattr(called.after, name))):
+                    self.assertEqual(self.told(changed(called, name, at)), [f"{name} of a copy or a guard of it is not as it should be"])
+
+    def test_left_as_it_was(self):
+        """A copy that was not written, and a length that was not stored."""
+        for name in CopyMemory._fields:
+            left = self.made.after._replace(**{name: getattr(self.made.before, name)})
+            self.assertEqual(self.told(self.made._replace(after=left)), [f"{name} of a copy or a guard of it is not as it should be"])
+
+    def test_another_copy(self):
+        """The moves as they were typed, and another length stored."""
+        start, size = GUARD, sizeof(COPY_KINDS.length)
+        as_typed = self.made.before.copy[:start] + self.TYPED[0] + self.made.before.copy[start + len(self.TYPED[0]):]
+        self.assertTrue(self.told(self.made._replace(after=self.made.after._replace(copy=as_typed))))
+        longer = self.made.after.length[:GUARD * size] + (self.ROOM).to_bytes(size, "little") + self.made.after.length[(GUARD + 1) * size:]
+        self.assertTrue(self.told(self.made._replace(after=self.made.after._replace(length=longer))))
+
+    def test_texts(self):
+        self.assertEqual(self.told(self.made._replace(texts=(b"", SHEET[1]))), ["a text has changed"])
 
 
 class Printed(unittest.TestCase):

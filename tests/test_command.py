@@ -1,22 +1,23 @@
-"""The command `./sheetcheck`: what it prints and what it says, the samples in the README, and the README's picture."""
+"""The command `./sheetcheck`: what it prints and what it says, of a report and of a copy, the samples in the README, and the README's picture."""
 import re
 import subprocess
 import tempfile
 import unittest
 
+from reckoning.copying import BY_SHEET, copied
 from reckoning.limits import HOUR, MOST_HUNDREDTHS, MOST_LEVELS, MOST_MOVES, MOST_RATE
 from reckoning.refusal import BY_TEXTS, refusal
 from reckoning.report import refused
-from reckoning.sheets import LABELS, MOVES, REPORT
+from reckoning.sheets import LABELS, MOVES, REPORT, moves_text
 from tests.edges import levels, load, loads, moves, small, typed
 from tests.places import ROOT
 from tests.program import put
 
-SAMPLE = re.compile(r"^    \$ (\./sheetcheck \S+)\n((?:    .+\n)+)", re.MULTILINE)
+SAMPLE = re.compile(r"^    \$ \./sheetcheck (.+)\n((?:    .+\n)+)", re.MULTILINE)
 DRAWN = re.compile(r"^    (tools/curve .*) --out (docs/\S+\.svg)$", re.MULTILINE)
 SAID = re.compile(r"sheetcheck: refused, since [a-z].*\.\n")
 
-# For each number that three texts can be refused with, the example that document 01 gives beside it, and one for 16; 7 is never given.
+# For each number that three texts can be refused with, the example that document 01 gives beside it, and one for 16; 7 and 8 are never given.
 TURNED_BACK = {
     1: (MOVES, LABELS, b""),
     2: typed(b"0,1"),
@@ -24,7 +25,6 @@ TURNED_BACK = {
     4: (MOVES, b"state,up\n1,0\n", b"tt\n"),
     5: moves(MOST_MOVES + 1),
     6: typed(b"0,9,5"),
-    8: typed(b"1,0,5\n0,1,5"),
     9: typed(b"0,1,0"),
     10: small(b"& up"),
     11: levels(MOST_LEVELS + 1),
@@ -35,21 +35,22 @@ TURNED_BACK = {
 }
 
 
-def command(folder):
-    """What the command prints for a folder and what it says."""
-    done = subprocess.run([ROOT / "sheetcheck", folder], cwd=ROOT, capture_output=True, check=True)
+def command(*words):
+    """What the command prints and what it says, given a folder, perhaps behind `--copy`."""
+    done = subprocess.run([ROOT / "sheetcheck", *words], cwd=ROOT, capture_output=True, check=True)
     return done.stdout, done.stderr.decode()
 
 
-def command_on(job):
+def command_on(job, *words):
     with tempfile.TemporaryDirectory() as folder:
         put(job, folder)
-        return command(folder)
+        return command(*words, folder)
 
 
 def setUpModule():
-    """The first call may build the program, and says so."""
+    """The first call of each kind may build a program, and says so."""
     command("examples/small")
+    command("--copy", "examples/small")
 
 
 class Command(unittest.TestCase):
@@ -68,11 +69,29 @@ class Command(unittest.TestCase):
         printed, said = command("examples/small")
         self.assertEqual((printed, said), (REPORT, ""))
 
+    def test_copies(self):
+        """The moves of a folder, pairs rising and none twice; it needs no formula."""
+        typed_moves = moves_text([(1, 1, 4), (0, 1, 60), (1, 0, 5), (0, 1, 40)])
+        for formula in (b"tt\n", b"", b"gas\n"):
+            self.assertEqual(command_on((typed_moves, LABELS, formula), "--copy"), (b"from,to,rate\n0,1,100\n1,0,5\n1,1,4\n", ""))
+        self.assertEqual(command("--copy", "examples/small"), (MOVES, ""))
+
+    def test_says_of_a_copy_what_each_number_means(self):
+        """In the words that it has for a job."""
+        for number in BY_SHEET:
+            moves, labels, _ = TURNED_BACK[number] if number > 1 else (b"", LABELS, b"tt\n")
+            with self.subTest(number):
+                self.assertEqual(copied(moves, labels), number)
+                of_job = command_on((moves, labels, b"tt\n"))
+                self.assertEqual(of_job[0], refused(number))
+                self.assertEqual(command_on((moves, labels, b"tt\n"), "--copy"), (of_job[0], of_job[1].replace("sheetcheck: ", "sheetcopy: ")))
+
     def test_wants_one_folder(self):
-        for arguments in ([], ["examples/small", "docs"]):
+        for arguments in ([], ["examples/small", "docs"], ["--copy"], ["--copy", "examples/small", "docs"], ["--clean", "examples/small"],
+                          ["examples/small", "--copy"]):
             done = subprocess.run([ROOT / "sheetcheck", *arguments], cwd=ROOT, capture_output=True)
-            self.assertEqual((done.returncode, done.stdout), (2, b""))
-            self.assertIn(b"usage", done.stderr)
+            self.assertEqual((done.returncode, done.stdout), (2, b""), arguments)
+            self.assertEqual(done.stderr, b"usage: ./sheetcheck [--copy] FOLDER\n")
 
 
 class Readme(unittest.TestCase):
@@ -80,10 +99,10 @@ class Readme(unittest.TestCase):
 
     def test_samples(self):
         samples = SAMPLE.findall(self.text)
-        self.assertGreaterEqual(len(samples), 2)
-        for line, shown in samples:
-            with self.subTest(line):
-                printed, said = command(line.split()[1])
+        self.assertGreaterEqual(len(samples), 3)
+        for words, shown in samples:
+            with self.subTest(words):
+                printed, said = command(*words.split())
                 self.assertEqual(re.sub("(?m)^    ", "", shown), printed.decode() + said)
 
     def test_picture(self):

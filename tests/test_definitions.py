@@ -1,12 +1,15 @@
-"""The definitions compute, and agree with the second reckoning, on a job for each number and some accepted; and they do not prove what is false."""
+"""The definitions compute, and agree with the second reckoning, on a job and a clean copy for each number and some accepted; and they do not prove
+what is false."""
 import random
+import re
 import unittest
 from itertools import product
 
+from reckoning.copying import BY_SHEET, SHORT_COPY, copied
 from reckoning.ends import Rules
 from reckoning.formula import hours_text
 from reckoning.judge import report_depth
-from reckoning.limits import BILLION, HOUR, MOST_HUNDREDTHS, MOST_LEVELS, MOST_RATE, MOST_STATES, RATE_HOURS
+from reckoning.limits import BILLION, HOUR, MOST_HUNDREDTHS, MOST_LEVELS, MOST_RATE, MOST_STATES, RATE_HOURS, SHEET_BYTES
 from reckoning.refusal import BY_TEXTS, SHORT, Job, lengths, refusal
 from reckoning.report import Row, worst_first
 from reckoning.sheets import FULL_MOVES, LABELS, MOVES, MOVES_LINE, NO_MOVES, between, labels_text, moves_text, until
@@ -23,7 +26,11 @@ JOBS = (
     (moves_text([(0, 2, 5)]), LABELS, b"up\n", None),
     (moves_text([(0, 0, 2), (0, 1, 1)]), LABELS, b"P >= 333333334 X dead\n", lengths(2, 2, 2)),
     (moves_text([(0, 0, MOST_RATE)]), LABELS, b"P < 1 U %s P < 1 X up P > 5 X ! dead\n" % hours_text(MOST_HUNDREDTHS), None),
-    (moves_text([(1, 1, 5), (1, 1, 5)]), LABELS, b"up\n", None),
+    (moves_text([(1, 1, 5), (0, 1, 3), (1, 1, 5), (0, 1, 4)]), LABELS, b"P < 1 U 8 up P >= 5 X dead\n", lengths(2, 4, 4)),
+    (moves_text([(1, 1, 5), (0, 1, 3), (1, 1, 5), (0, 1, 4)]), LABELS, b"up\n", lengths(2, 4, 1)._replace(moves=7)),
+    (moves_text([(0, 1, MOST_RATE // 2), (1, 0, 1), (0, 1, MOST_RATE // 2)]), LABELS, until(HOUR), None),
+    (moves_text([(0, 1, MOST_RATE // 2), (1, 0, 1), (0, 1, MOST_RATE // 2 + 1)]), LABELS, b"up\n", None),
+    (moves_text([(0, 1, 5), (1, 0, 1), (0, 1, 0)]), LABELS, b"up\n", None),
     (moves_text([(0, 0, MOST_RATE), (0, 1, 1)]), LABELS, b"up\n", None),
     (MOVES, LABELS, b"P < 1 X dead up\n", None),
     (MOVES, LABELS, b"P < 1000000001 X dead\n", None),
@@ -60,6 +67,24 @@ JOBS = (
 )
 
 
+ELEVEN = labels_text([], [[]] * 11)
+
+# moves, labels, and the length of the lent buffer
+COPIES = (
+    *dict.fromkeys((moves, labels, SHEET_BYTES) for moves, labels, _, _ in JOBS),
+    (moves_text([(10, 2, 5), (2, 10, 7), (2, 9, 1), (0, 0, 3), (2, 10, 93), (9, 0, 1), (2, 2, 8)]), ELEVEN, SHEET_BYTES),
+    (moves_text([(s, 10 - s, 10**(s % 8)) for s in (7, 3, 9, 0, 1, 10, 8, 2, 5, 4, 6, 3, 7)]), ELEVEN, SHEET_BYTES),
+    (moves_text([(1, 0, 1), *[(0, 1, 9)] * 12, (1, 1, 2)]), LABELS, SHEET_BYTES),
+    *((NO_MOVES, LABELS, room) for room in (0, len(NO_MOVES) - 1, len(NO_MOVES))),
+    *((moves_text([(1, 0, 60), (0, 1, 5), (1, 0, 40)]), LABELS, room) for room in (0, 1, 26, 27, 28)),
+    (MOVES_LINE + b"0,1,5\n0,1,0\n", LABELS, 0),
+    (MOVES_LINE + b"0,9,0\n", LABELS, 0),
+    (b"from,to\n0,1,5\n", LABELS, 0),
+    (MOVES, b"", SHEET_BYTES),
+    (MOVES, b"state\n", SHEET_BYTES),
+)
+
+
 def reckoned(moves, labels, formula, lent):
     """The job, with what the second reckoning says of it."""
     job = {"moves": moves, "labels": labels, "formula": formula, "lent": lent}
@@ -84,19 +109,30 @@ def reports():
 
 class Definitions(unittest.TestCase):
     def test_agree_with_the_second_reckoning(self):
-        """On jobs, and on the order and the two listings of reports."""
+        """On jobs, on the order and the two listings of reports, and on clean copies."""
         jobs = [reckoned(*job) for job in JOBS]
         numbers = {job.get("refused") for job in jobs}
         self.assertTrue(numbers >= {None, *BY_TEXTS, SHORT} - {5}, numbers)
         listings = [definitions.report_equations(number, rows) for number, rows in enumerate(reports())]
         self.assertGreater(len(listings), 30)
-        good, printed = definitions.check(definitions.equations_of(jobs) + listings)
+        numbers = {copied(*copy) if isinstance(copied(*copy), int) else None for copy in COPIES}
+        self.assertTrue(numbers >= {None, *BY_SHEET, SHORT_COPY} - {5}, numbers)
+        copies = [definitions.copy_equations(number, *copy) for number, copy in enumerate(COPIES)]
+        good, printed = definitions.check(definitions.equations_of(jobs) + listings + copies)
         self.assertTrue(good, printed)
 
     def test_a_wrong_number_is_not_proved(self):
         job = dict(reckoned(*JOBS[1]), refused=3)
         good, _ = definitions.check(definitions.equations_of([job]))
         self.assertFalse(good)
+
+    def test_another_copy_is_not_proved(self):
+        """The lines as they were typed, and a number for what is accepted."""
+        moves = moves_text([(1, 0, 60), (0, 1, 5), (1, 0, 40)])
+        good, printed = definitions.check([definitions.copy_equations(number, moves, LABELS, answer=answer)
+                                           for number, answer in enumerate((moves, SHORT_COPY))])
+        self.assertFalse(good)
+        self.assertEqual(re.findall("error: `(.+?)`", printed), ["copy-of-0", "copy-refusal-of-1"])
 
     def test_another_order_is_not_proved(self):
         """Equal ends by falling number."""

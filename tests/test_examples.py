@@ -7,6 +7,7 @@ from examples.generate import SHEETS, texts
 from reckoning.__main__ import read_texts
 from reckoning.backing import near_operands
 from reckoning.chain import depth
+from reckoning.copying import copied
 from reckoning.ends import Rules, verdicts
 from reckoning.formula import Next, P, bounds, operands, spelled
 from reckoning.judge import allowed_ends, judge
@@ -97,6 +98,24 @@ class Examples(unittest.TestCase):
         for path, told in ((b"V 2 2", ("0.99120", "yes")), (b"V 3 8.25", ("0.99010", "yes")), (b"V 3.25 8.25", ("0.98923", "no"))):
             self.assertEqual(asked(path)[0], told)
             self.assertIn(told[0], (EXAMPLES / "not-before-settled" / "README.md").read_text())
+
+    def test_one_has_moves_at_the_foot(self):
+        """After the workshop: the moves of the gun string, then others in any order, six of them of pairs that stand above. Either line of such a
+        pair by itself leaves the yes that both together take away; the clean copy has the same ends."""
+        moves, labels, formula = read_texts(EXAMPLES / "after-workshop")
+        plain = read_texts(EXAMPLES / "gun-string")
+        self.assertTrue(moves.startswith(plain[0]))
+        self.assertEqual((labels, formula), tuple(plain[1:]))
+        pairs = [move[:2] for move in refusal(moves, labels, formula).moves]
+        above, foot = pairs[:-9], pairs[-9:]
+        self.assertEqual((len(above), len(set(above) & set(foot)), len(set(foot))), (len(refusal(*plain).moves), 6, 9))
+        copy = copied(moves, labels)
+        self.assertEqual((allowed_ends(copy, labels, formula), copied(plain[0], labels)), (allowed_ends(moves, labels, formula), plain[0]))
+        for left_out, chance in ((b"4,10,600\n", "0.00534"), (b"4,10,650\n", "0.00493")):
+            self.assertEqual(moves.count(left_out), 1)
+            allowed = allowed_ends(moves.replace(left_out, b""), labels, formula)
+            self.assertEqual((f"{allowed.lower[4][1] / BILLION:.5f}", allowed.verdicts[4]), (chance, {"yes"}))
+            self.assertIn(chance, (EXAMPLES / "after-workshop" / "README.md").read_text())
 
     def depths(self, *sheet):
         """The depths of the phases of the outermost question."""

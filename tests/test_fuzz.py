@@ -1,4 +1,5 @@
-"""A short run of the fuzzer; and that it finds a wrong number, a touched byte, a read past a text, a crash and a call that does not end."""
+"""A short run of the fuzzer; and that it finds a wrong number, a touched byte, a read past a text, a crash and a call that does not end, in a check
+and in a copy."""
 import subprocess
 import tempfile
 import unittest
@@ -16,28 +17,27 @@ FUZZ = ROOT / "tests" / "fuzz"
 SECONDS = 3
 SEED = 31
 
-# A library that refuses every job with 1, which is right for the empty one that it is tried with first; WRONG is what it does besides.
+# A library that refuses every job and every copy with 1, which is right for the empty one that it is tried with first; WRONG is what a function
+# does besides.
 HEAD = '#include "sebdyqul.h"\n'
 BODY = """{
-    (void)moves, (void)moves_length, (void)labels, (void)labels_length, (void)formula_length, (void)lower, (void)lower_length, (void)upper;
-    (void)upper_length, (void)verdicts, (void)verdicts_length, (void)order, (void)order_length, (void)words, (void)words_length;
-    (void)vectors, (void)vectors_length, (void)marks, (void)marks_length, (void)depth, (void)formula;
     WRONG
     return 1;
 }
 """
 
 
-def declared():
-    """The declaration of the function, as the head of a definition."""
+def declared(name):
+    """The declaration of a function, as the head of a definition."""
     text = (ROOT / "library" / "sebdyqul.h").read_text()
-    return text[text.index("uint64_t sebdyqul_check"):].partition(";")[0] + "\n"
+    return text[text.index(f"uint64_t {name}("):].partition(";")[0] + "\n"
 
 
-def wrong_library(folder, wrong):
-    """A shared object whose function does something wrong."""
+def wrong_library(folder, wrong, wrong_copy):
+    """A shared object whose functions do something wrong."""
     source, shared = Path(folder) / "wrong.c", Path(folder) / "wrong.so"
-    source.write_text(HEAD + declared() + BODY.replace("WRONG", wrong))
+    functions = [declared(name) + BODY.replace("WRONG", does) for name, does in (("sebdyqul_check", wrong), ("sebdyqul_copy", wrong_copy))]
+    source.write_text(HEAD + "\n".join(functions))
     subprocess.run(["cc", "-O1", "-fPIC", "-shared", f"-I{ROOT / 'library'}", "-o", shared, source, SOURCE], check=True)
     return shared
 
@@ -61,18 +61,26 @@ class Fuzz(unittest.TestCase):
         self.assertEqual(ended.faults, ["13 for 14"])
         self.assertEqual(refusal(*ended.job, ended.lent), 13)
 
-    def found(self, wrong, **more):
+    def found(self, wrong, wrong_copy="", **more):
         """What is found with a wrong library."""
         with tempfile.TemporaryDirectory() as folder, mock.patch.object(fuzzing, "seeds", lambda rng: [(b"", b"", b"")]):
-            return fuzz(wrong_library(folder, wrong), SECONDS, SEED, **more)
+            return fuzz(wrong_library(folder, wrong, wrong_copy), SECONDS, SEED, **more)
 
     def test_wrong_libraries(self):
-        self.assertRegex(self.found("").faults[0], "^number 1, should be ")
+        self.assertRegex(self.found("").faults[0], "^number 1(| of a copy), should be ")
         self.assertEqual(self.found("*depth = 7;").faults, ["depth or a guard of it is not as it should be"])
         self.assertEqual(self.found("marks[marks_length] ^= 1;").faults, ["marks or a guard of it is not as it should be"])
         self.assertEqual(self.found("lower[-1] ^= 1;").faults, ["lower or a guard of it is not as it should be"])
         for wrong in ("order[0] ^= 1;", "order[order_length] ^= 256;", "order[-1] ^= 1;"):
             self.assertEqual(self.found(wrong).faults, ["order or a guard of it is not as it should be"])
+
+    def test_wrong_copies(self):
+        self.assertEqual(self.found("", "return 2;").faults, ["number 2 of a copy, should be 1"])
+        self.assertEqual(self.found("", "*length = 7;").faults, ["length of a copy or a guard of it is not as it should be"])
+        for wrong in ("copy[0] ^= 1;", "copy[copy_length] ^= 1;", "copy[-1] ^= 1;"):
+            self.assertEqual(self.found("", wrong).faults, ["copy of a copy or a guard of it is not as it should be"])
+        for wrong in ("if (labels[labels_length]) return 2;", "if (moves[moves_length]) return 2;"):
+            self.assertEqual(self.found("", wrong).faults, ["ended with SIGSEGV"])
 
     def test_crashes(self):
         ended = self.found("if (formula_length) __builtin_trap();")

@@ -7,6 +7,8 @@ import tempfile
 import unittest
 
 from reckoning.__main__ import read_texts
+from reckoning.copying import printed_copy
+from reckoning.limits import MOST_MOVES, MOST_RATE, SHEET_BYTES
 from reckoning.report import refused
 from tests import edges
 from tests.agreement import refusal_number
@@ -19,6 +21,7 @@ README = ROOT / "library" / "README.md"
 COMMAND = re.compile(r"^    ((?:cc|rustc) .*)$", re.MULTILINE)
 STRICT = ("-Werror", "-D warnings")
 EXAMPLES = ((TARGET / "example-c", "."), (TARGET / "example-rs", "."))
+COPYING = tuple((program, "--copy", folder) for program, folder in EXAMPLES)
 RUST_TESTS = TARGET / "sebdyqul-rs-tests"
 STACK = 1 << 20             # bytes that the library gets by with
 DAMAGED = 15
@@ -58,15 +61,30 @@ class LibraryExamples(unittest.TestCase):
                 with self.subTest(name):
                     self.assertEqual(run(job, stack=STACK, command=EXAMPLES[0]), run(job))
 
+    def test_copies(self):
+        """Of the example sheets, of damaged ones, and at the limits within the stack."""
+        rng = random.Random(22)
+        jobs = [tuple(read_texts(folder)) for folder in FOLDERS] + [damaged_job(rng) for _ in range(DAMAGED)]
+        for job in jobs + [edges.long_moves(SHEET_BYTES), edges.moves_again(MOST_MOVES), edges.rates_again(MOST_RATE + 1)]:
+            for example in COPYING:
+                self.assertEqual(run(job, stack=STACK, command=example), printed_copy(*job[:2]), job)
+
+    def test_wrong_words(self):
+        for program, *words in ((*EXAMPLES[0], "."), (EXAMPLES[0][0],), (*EXAMPLES[1], "."), (EXAMPLES[1][0],), (EXAMPLES[0][0], "copy", "."),
+                                (EXAMPLES[1][0], "copy", ".")):
+            done = subprocess.run([program, *words], capture_output=True, text=True)
+            self.assertEqual((done.returncode, done.stdout), (2, ""))
+            self.assertRegex(done.stderr, r"^usage: example-(c|rs) \[--copy\] FOLDER\n$")
+
     def test_files_that_are_not_there(self):
         with tempfile.TemporaryDirectory() as folder:
-            for example in EXAMPLES:
+            for example in (*EXAMPLES, *COPYING):
                 self.assertEqual(subprocess.run(example, cwd=folder, stdout=subprocess.PIPE, check=True).stdout, refused(1))
 
     def test_the_rust_function(self):
         result = subprocess.run([RUST_TESTS], stdout=subprocess.PIPE, text=True)
         self.assertEqual(result.returncode, 0, result.stdout)
-        self.assertIn("3 passed; 0 failed", result.stdout)
+        self.assertIn("6 passed; 0 failed", result.stdout)
 
 
 if __name__ == "__main__":

@@ -3,13 +3,13 @@ import re
 import unittest
 
 from reckoning import limits
-from tests.library import ENOUGH
+from tests.library import COPY, ENOUGH
 from tests.places import ROOT
 
 DEFINED = re.compile(r"^(\w+) = (\d+)(?: \* (\w+))?$", re.MULTILINE)
 HEADER = re.compile(r"^#define SEBDYQUL_(\w+) (\d+)$", re.MULTILINE)
 RUST = re.compile(r"^pub const (\w+): usize = ([\d_]+);$", re.MULTILINE)
-LENT = {"RESULTS": ENOUGH.lower, "WORDS": ENOUGH.moves, "VECTORS": ENOUGH.vectors, "MARKS": ENOUGH.marks}
+LENT = {"RESULTS": ENOUGH.lower, "WORDS": ENOUGH.moves, "VECTORS": ENOUGH.vectors, "MARKS": ENOUGH.marks, "COPY": COPY}
 
 
 def numbers(pattern, path):

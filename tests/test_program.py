@@ -4,19 +4,22 @@ import resource
 import subprocess
 import unittest
 
+from reckoning.copying import copied
+from reckoning.formula import hours_text
 from reckoning.judge import judge
-from reckoning.limits import BILLION, HOUR, MOST_HUNDREDTHS, MOST_LEVELS, MOST_MOVES, MOST_RATE, MOST_STATES
+from reckoning.limits import BILLION, HOUR, MOST_HUNDREDTHS, MOST_LEVELS, MOST_MOVES, MOST_RATE, MOST_STATES, SHEET_BYTES
 from reckoning.refusal import BY_TEXTS
 from reckoning.report import read_report, refused
 from reckoning.sheets import (FAST_MOVES, FORMULA, FULL_MOVES, HOURS_8, LABELS, MOVES, NO_MOVES, REPORT, REPORT_LINE, labels_text, moves_text,
                               until)
 from reckoning.tests import chains
+from reckoning.tests.lines import WAYS, drawn
 from reckoning.tests.prints import twice
 from reckoning.tests.vectors import MISSING, cases, texts_of
 from tests import edges, orders, two_times, ways
 from tests.agreement import refusal_number, tried
 from tests.jobs import Sheet, damaged_job, random_job
-from tests.mutations import bent_job
+from tests.mutations import bent_job, with_lines_drawn
 from tests.places import DEEP
 from tests.possible import drawn_job
 from tests.program import run
@@ -140,7 +143,6 @@ class Program(unittest.TestCase):
         for formula in (b"P < 1 X dead up", b"P < 1 X", b"X dead", b"P < 1 X 8 dead", b"P < 1 U 8 X up dead"):
             self.assertEqual(run(edges.small(formula)), refused(10), formula)
         self.assertEqual(run(edges.small(b"P < 1000000001 X dead")), refused(13))
-        self.assertEqual(run(edges.typed(b"0,1,3\n0,0,2")), refused(8))
         self.assertEqual(run(edges.typed(b"0,0,%d\n0,1,1" % MOST_RATE)), refused(9))
 
     def test_until_beside_restarts(self):
@@ -157,8 +159,8 @@ class Program(unittest.TestCase):
             self.assertEqual(run((sheet.moves_text, sheet.labels_text, question)), run((others, sheet.labels_text, question)))
 
     def test_sums_past_32_bits(self):
-        """Sums that 32 bits do not hold are 9, also where they would come round to 5: of rates of nine digits and of rates within the limit, with
-        as many as one state can have. Thousands on one state are 8 or 6, which are tested before."""
+        """Sums that 32 bits do not hold are 9, also where they would come round to 5: of rates of nine digits and of rates within the limit, to as
+        many states as there may be, and of one pair, on as many lines. Thousands of states that are not there are 6, which is tested before."""
         most, round_to_5 = 10**9 - 1, 2**32 + 5
         four, all_but_one = [most] * 4, [most] * (MOST_STATES - 1)
         within = [MOST_RATE - 1] * (round_to_5 // (MOST_RATE - 1))
@@ -170,7 +172,10 @@ class Program(unittest.TestCase):
         even = [MOST_RATE // MOST_STATES] * MOST_STATES
         self.assertEqual(run(edges.rates_out(even)).count(b",yes\n"), 2 * MOST_STATES)
         self.assertEqual(run(edges.rates_out(even[:-1] + [even[-1] + 1])), refused(9))
-        self.assertEqual(run(edges.typed(b"\n".join([b"0,1,%d" % most] * MOST_MOVES))), refused(8))
+        of_one_pair = [most] * (MOST_MOVES - 3)
+        for last in (most, (5 - sum(of_one_pair)) % 2**32):
+            self.assertLessEqual(last, most)
+            self.assertEqual(run(edges.typed(b"\n".join(b"0,1,%d" % rate for rate in (*of_one_pair, last)))), refused(9))
         self.assertEqual(run(edges.typed(b"\n".join(b"0,%d,%d" % (to, most) for to in range(3_500)))), refused(6))
 
     def test_worst_state_at_the_top(self):
@@ -206,6 +211,71 @@ class Program(unittest.TestCase):
         limit = lambda: resource.setrlimit(resource.RLIMIT_STACK, (READING_STACK, READING_STACK))
         told = subprocess.run([DEEP], stdout=subprocess.PIPE, check=True, preexec_fn=limit).stdout
         self.assertEqual(told, b"ok\n" * 30)
+
+
+class AnyOrder(unittest.TestCase):
+    """Lines in any order, and pairs on several lines: what is printed is what is printed for the moves that rise, each pair on one line."""
+
+    def same(self, job, other):
+        """What is printed for both, which is the same and a report that the rules allow."""
+        printed = run(job, stack=STACK)
+        self.assertEqual(printed, run(other, stack=STACK), job[0][:200])
+        self.assertFalse(tried(judge, *job, printed), job[0][:200])
+        return printed
+
+    def test_small_sheet(self):
+        """A rate of 500 on one line and on several, with a restart and a move back between them."""
+        self.assertEqual(self.same(edges.typed(b"0,1,200\n0,1,300")[:2] + (FORMULA,), (MOVES, LABELS, FORMULA)), REPORT)
+        rising = edges.typed(b"0,0,7\n0,1,500\n1,0,3\n1,1,1")[:2]
+        typed = edges.typed(b"1,1,1\n0,1,499\n1,0,2\n0,0,7\n0,1,1\n1,0,1")[:2]
+        for formula in (FORMULA, HOURS_8, b"tt\n", b"P >= 5 X dead\n", b"P > 0 U 0.01 up dead\n", b"P > 5 V 1 8 tt dead\n"):
+            self.same((*typed, formula), (*rising, formula))
+
+    def test_every_way(self):
+        """Each way in which moves may be typed, for made sheets and for the questions of each kind."""
+        rng, apart = random.Random(51), set()
+        for sheet in (Sheet(rng) for _ in range(MADE // 15)):
+            rising, hours = moves_text(sheet.moves), hours_text(max(1, sheet.hundredths(rng, most_load=3)))
+            for name, way in WAYS.items():
+                asked = rng.choice([b"P >= 5 U " + hours, b"P > 0 U " + hours, b"P > 5 V 0.01 " + hours, b"P >= 5 X ! &"])
+                formula = b" ".join([asked, rng.choice(sheet.names), rng.choice(sheet.names)]) + b"\n"
+                typed = moves_text(way(rng, sheet.moves))
+                self.same((typed, sheet.labels_text, formula), (rising, sheet.labels_text, formula))
+                apart |= {name} if typed != rising else set()
+        self.assertEqual(apart, set(WAYS) - {"rising"})
+
+    def test_made_jobs(self):
+        """Jobs of all kinds whose lines are in any order, and damaged and bent ones, beside the same with the clean copy of their moves."""
+        rng, apart = random.Random(52), 0
+        for job in (make(rng) for _ in range(MADE // 2) for make in (random_job, drawn_job, damaged_job, bent_job)):
+            copy = copied(*job[:2])
+            if not isinstance(copy, int):
+                self.assertEqual(run(job), run((copy, *job[1:])), job)
+                apart += copy != job[0]
+        self.assertGreater(apart, MADE // 2)
+
+    def test_as_many_lines_as_there_may_be(self):
+        """4,096 lines: of one pair, of as many pairs that fall or are drawn, and of 512 pairs eight times; and totals that are just allowed."""
+        rng, question = random.Random(53), b"P >= 5 U 0.5 tt ! tt\n"
+        for moves, labels, _ in (edges.moves_again(MOST_MOVES), edges.moves_falling(MOST_MOVES), edges.rates_again(MOST_RATE),
+                                 edges.rates_apart(MOST_RATE), edges.long_moves(SHEET_BYTES)):
+            rising = copied(moves, labels)
+            for typed in (moves, with_lines_drawn(rng, moves)):
+                self.assertTrue(self.same((typed, labels, question), (rising, labels, question)).startswith(REPORT_LINE))
+        ring, times = [(s, (s + 1) % MOST_STATES, 125_000) for s in range(MOST_STATES)], MOST_MOVES // MOST_STATES
+        rising = moves_text((source, target, times * rate) for source, target, rate in ring)
+        typed, question = moves_text(drawn(rng, times * ring)), b"P >= 5 U 64 tt dead\n"
+        labels = two_times.largest()[1]
+        self.assertTrue(self.same((typed, labels, question), (rising, labels, question)).startswith(REPORT_LINE))
+
+    def test_totals(self):
+        """9 looks at each line's rate and at the totals of the states, wherever the lines stand."""
+        half = MOST_RATE // 2
+        for lines, number in ((b"0,1,0\n0,1,5", 9), (b"0,1,5\n1,0,3\n0,1,0", 9), (b"0,1,%d\n1,0,1\n0,1,%d" % (half, half + 1), 9),
+                              (b"0,1,%d\n1,0,1\n0,0,1\n0,1,%d" % (half, half), 9), (b"1,0,1\n0,1,%d\n0,2,1" % (MOST_RATE + 1), 6)):
+            self.assertEqual(run(edges.typed(lines)), refused(number), lines)
+        for lines in (b"0,1,%d\n1,0,1\n0,1,%d" % (half, half), b"1,0,%d\n0,1,%d\n0,0,%d\n1,1,%d" % (half, half, half, half)):
+            self.assertTrue(run(edges.typed(lines)).startswith(REPORT_LINE), lines)
 
 
 class TwoTimes(unittest.TestCase):

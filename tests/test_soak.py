@@ -9,6 +9,7 @@ from unittest import mock
 
 from reckoning import formula as f
 from reckoning.backing import near_operands
+from reckoning.copying import SHORT_COPY, copied
 from reckoning.ends import Rules, verdicts
 from reckoning.graph import EXTREMES
 from reckoning.limits import HOUR
@@ -16,32 +17,33 @@ from reckoning.refusal import BY_TEXTS, SHORT, needed, refusal
 from reckoning.verdict import UNDECIDED, WORDS, of_ends
 from tests import finding, soaking
 from tests.agreement import rows_of
-from tests.library import ENOUGH, GUARD, MORE, Library
+from tests.library import COPY, ENOUGH, GUARD, MORE, Library
 from tests.mutations import some_lent
-from tests.places import ROOT
+from tests.places import COPIER, PROGRAM, ROOT
+from tests.program import run
 from tests.soaking import soak, some_job, try_job
 
 SOAK = ROOT / "tests" / "soak"
 JOBS = 2_000
-SEED = 20
+SEED = 22
 FEW_STATES = 8              # of a job whose bounds are looked at
 
 
 class Wrong:
-    """A library whose answers are changed by a function."""
+    """A library whose checks are changed by a function, or whose copies are."""
 
-    def __init__(self, library, change):
-        self.library, self.change = library, change
+    def __init__(self, library, change=lambda called: called, change_copy=lambda called: called):
+        self.library, self.change, self.change_copy = library, change, change_copy
 
     def check(self, job, lent=ENOUGH):
         return self.change(self.library.check(job, lent))
 
+    def copy(self, sheet, room=COPY):
+        return self.change_copy(self.library.copy(sheet, room))
 
-class ByEnds:
+
+class ByEnds(Wrong):
     """A library that has every verdict of an outermost `P` from its ends."""
-
-    def __init__(self, library):
-        self.library = library
 
     def check(self, job, lent=ENOUGH):
         called = self.library.check(job, lent)
@@ -78,6 +80,37 @@ def another_state_first(called):
     return called._replace(after=called.after._replace(order=data))
 
 
+class FirstOfPairs(Wrong):
+    """A library that takes the first line of each pair of states and leaves out those that stand there again."""
+
+    def check(self, job, lent=ENOUGH):
+        called = self.library.check(job, lent)
+        if called.number:
+            return called
+        head, *lines = job[0].splitlines(keepends=True)
+        firsts = {line.rpartition(b",")[0]: line for line in reversed(lines)}
+        other = self.library.check((b"".join([head, *firsts.values()]), *job[1:]), lent)
+        return other._replace(before=other.before._replace(moves=called.before.moves), after=other.after._replace(moves=called.after.moves),
+                              texts=tuple(job))
+
+
+def no_refusal_of_17(called):
+    """A copy that is too long is said to be there."""
+    return called._replace(number=0) if called.number == SHORT_COPY else called
+
+
+def a_byte_beyond(called):
+    """The byte behind the lent buffer another one."""
+    at = GUARD + called.lent
+    data = called.after.copy[:at] + bytes([called.after.copy[at] ^ 1]) + called.after.copy[at + 1:]
+    return called._replace(after=called.after._replace(copy=data))
+
+
+def length_left(called):
+    """The length as it was."""
+    return called._replace(after=called.after._replace(length=called.before.length))
+
+
 KINDS = {(): "next move", (0,): "no time"}
 
 
@@ -112,6 +145,15 @@ def phases_of(job):
             yield from ("about a " + type(other.path).__name__ for other in f.bounds(node)[1:])
 
 
+def lines_of(job):
+    """What there is to say of the lines of a job's moves."""
+    pairs = [move[:2] for move in job.moves]
+    yield "rising" if pairs == sorted(pairs) else "not rising"
+    yield "pairs again" if len(set(pairs)) < len(pairs) else "each pair once"
+    if any(source == target and pairs.count((source, target)) > 1 for source, target in pairs):
+        yield "a restart again"
+
+
 class Soak(unittest.TestCase):
     @classmethod
     def setUpClass(cls):
@@ -121,6 +163,7 @@ class Soak(unittest.TestCase):
         ended = soak(JOBS, SEED, self.library)
         self.assertEqual((ended.faults, ended.counts["jobs"]), ([], JOBS), ended)
         self.assertEqual(ended.counts["by the program"], JOBS // soaking.PROGRAM_EVERY)
+        self.assertEqual(ended.counts["copied"], JOBS // soaking.COPY_EVERY)
         self.assertLess(ended.counts["given up"], 0.05 * JOBS)
         self.assertGreater(ended.counts[0], 0.2 * JOBS)
         self.assertLessEqual({0, *BY_TEXTS, SHORT} - {5}, set(ended.counts))
@@ -141,6 +184,26 @@ class Soak(unittest.TestCase):
         """Once the moves decide a verdict, a library that goes by the ends is told."""
         ended = soak(JOBS, SEED, ByEnds(self.library))
         self.assertRegex("".join(ended.faults), r"^state \d+: verdict undecided does not follow from the moves")
+
+    def test_wrong_copies_are_found(self):
+        for change, told in ((no_refusal_of_17, "number 0 of a copy, should be 17"), (a_byte_beyond, "copy of a copy or a guard"),
+                             (length_left, "length of a copy or a guard")):
+            ended = soak(JOBS, SEED, Wrong(self.library, change_copy=change))
+            self.assertTrue(ended.faults[0].startswith(told), ended.faults)
+            self.assertEqual(ended.counts["jobs"] % soaking.COPY_EVERY, 0)
+
+    def test_rates_that_are_not_added_are_found(self):
+        self.assertRegex(soak(JOBS, SEED, FirstOfPairs(self.library)).faults[0], r"^state \d+: |^the report on the clean copy ")
+
+    def test_lines_in_any_order(self):
+        """Of the jobs that are accepted many have lines that do not rise, pairs that stand again, and copies that are other texts."""
+        rng, seen = random.Random(SEED), Counter()
+        for job in (some_job(rng) for _ in range(JOBS)):
+            reckoned = refusal(*job)
+            if not isinstance(reckoned, int):
+                seen.update([*lines_of(reckoned), "another copy" if copied(*job[:2]) != job[0] else "the same"])
+        for kind in ("rising", "not rising", "pairs again", "each pair once", "a restart again", "another copy", "the same"):
+            self.assertGreater(seen[kind], JOBS // 40, seen)
 
     def test_thresholds_that_the_moves_decide(self):
         """Of the bounds in the jobs that are tried, many have these thresholds: decided operands and undecided ones, until and next move, outermost
@@ -189,10 +252,14 @@ class Soak(unittest.TestCase):
         self.assertTrue(any(each < -1 for each in over) and any(each > MORE for each in over), over)
 
     def test_a_wrong_program_is_found(self):
-        with mock.patch.object(soaking, "run", lambda job: b"refused\n7\n"):
-            ended = soak(JOBS, SEED, self.library)
-        self.assertEqual(ended.counts["jobs"], soaking.PROGRAM_EVERY)
-        self.assertIn("the program", ended.faults[0])
+        """The one that checks, and the one that copies."""
+        for wrong, told in ((PROGRAM, "the program prints"), (COPIER, "the program that copies prints")):
+            def printed(job, command=(PROGRAM,)):
+                return b"refused\n7\n" if command == (wrong,) else run(job, command=command)
+            with mock.patch.object(soaking, "run", printed):
+                ended = soak(JOBS, SEED, self.library)
+            self.assertEqual(ended.counts["jobs"], soaking.PROGRAM_EVERY)
+            self.assertTrue(ended.faults[0].startswith(told), ended.faults)
 
     def test_a_kept_job_can_be_tried_again(self):
         wrong = Wrong(self.library, one_for_another)
@@ -202,15 +269,16 @@ class Soak(unittest.TestCase):
             job, lent = finding.kept(Path(folder) / "found")
             self.assertEqual((job, lent), (ended.job, ended.lent))
             self.assertEqual(try_job(wrong, job, lent, by_program=False)[1], ended.faults)
-            run = subprocess.run([SOAK, "--again", Path(folder) / "found"], stdout=subprocess.PIPE, text=True)
-            self.assertEqual((run.stdout, run.returncode), ("no faults\n", 0))
+            done = subprocess.run([SOAK, "--again", Path(folder) / "found"], stdout=subprocess.PIPE, text=True)
+            self.assertEqual((done.stdout, done.returncode), ("no faults\n", 0))
 
     def test_command(self):
-        run = subprocess.run([SOAK, "60", "--seed", "5"], stdout=subprocess.PIPE, text=True)
-        self.assertEqual(run.returncode, 0)
-        first, last = run.stdout.splitlines()
+        done = subprocess.run([SOAK, "60", "--seed", "5"], stdout=subprocess.PIPE, text=True)
+        self.assertEqual(done.returncode, 0)
+        first, last = done.stdout.splitlines()
         self.assertEqual(first, "seed 5")
-        self.assertRegex(last, r"^60 jobs, 2 of them by the program too; \d+ accepted; refused .*; \d+ given up by the judge$")
+        self.assertRegex(last, r"^60 jobs, 2 of them by the program too, 12 with a copy of their moves; \d+ accepted; refused .*; "
+                               r"\d+ given up by the judge$")
 
 
 if __name__ == "__main__":

@@ -13,10 +13,14 @@ def row(count, rate):
                   b"dead": tuple(s == last for s in range(count))})
 
 
+def moves_of(chain):
+    """The moves of a chain, rising, none twice."""
+    return sorted((*pair, rate) for pair, rate in chain.rates.items())
+
+
 def texts(chain):
     """The moves and the labels text of a chain."""
-    moves = sorted((*pair, rate) for pair, rate in chain.rates.items())
-    return moves_text(moves), labels_text(chain.marks, zip(*chain.marks.values()))
+    return moves_text(moves_of(chain)), labels_text(chain.marks, zip(*chain.marks.values()))
 
 
 def random_chain(random, states=None, greatest=None):

@@ -1,4 +1,4 @@
-"""The three commands."""
+"""The four commands."""
 
 import subprocess
 import sys
@@ -50,6 +50,13 @@ class Commands(unittest.TestCase):
             "0: lower 3491800 to 3492135, upper 3492136 to 3492471, no",
             "1: lower 0 to 0, upper 0 to 0, yes"]))
         self.assertEqual(self.run_with("ends", moves=MOVES, labels=LABELS, formula=b"P < 1 V 8 1 up dead\n"), (0, "refused 16\n"))
+
+    def test_copy(self):
+        """It needs no formula, and prints what the program prints that copies."""
+        moves = moves_text([(1, 0, 2), (0, 1, 5), (1, 1, 4), (0, 1, 6)])
+        self.assertEqual(self.run_with("copy", moves=moves, labels=LABELS), (0, "from,to,rate\n0,1,11\n1,0,2\n1,1,4\n"))
+        self.assertEqual(self.run_with("copy", moves=moves), (0, "refused\n1\n"))
+        self.assertEqual(self.run_with("copy", moves=moves_text([(0, 2, 5)]), labels=LABELS, formula=b""), (0, "refused\n6\n"))
 
     def test_cannot_tell(self):
         """The limit at state 0 is a half, a whole number of billionths, which going deeper does not show."""

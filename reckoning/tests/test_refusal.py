@@ -37,9 +37,9 @@ class Refusals(unittest.TestCase):
                 self.assertEqual(answer(**parts), number)
 
     def test_order(self):
-        """7 is never given, and 16 is tested after 13 and before 14."""
-        self.assertEqual([number for number, _ in TESTS], [1, 2, 3, 4, 5, 6, 8, 9, 10, 11, 12, 13, 16, 14, 15])
-        self.assertEqual(BY_TEXTS, {1, 2, 3, 4, 5, 6, 8, 9, 10, 11, 12, 13, 14, 16})
+        """7 and 8 are never given, and 16 is tested after 13 and before 14."""
+        self.assertEqual([number for number, _ in TESTS], [1, 2, 3, 4, 5, 6, 9, 10, 11, 12, 13, 16, 14, 15])
+        self.assertEqual(BY_TEXTS, {1, 2, 3, 4, 5, 6, 9, 10, 11, 12, 13, 14, 16})
 
     def test_table(self):
         one = b"state,up\n"
@@ -52,8 +52,8 @@ class Refusals(unittest.TestCase):
             (5, dict(moves=MOVES_LINE + b"0,1,5\n" * (MOST_MOVES + 1))),
             (6, dict(moves=MOVES_LINE + b"0,9,5\n")), (6, dict(moves=MOVES_LINE + b"2,0,5\n")),
             (0, dict(moves=MOVES_LINE + b"0,0,5\n")),
-            (8, dict(moves=MOVES_LINE + b"1,0,5\n0,1,5\n")),
-            (8, dict(moves=MOVES_LINE + b"0,1,5\n0,1,5\n")),
+            (0, dict(moves=MOVES_LINE + b"1,0,5\n0,1,5\n")),
+            (0, dict(moves=MOVES_LINE + b"0,1,5\n0,1,5\n")),
             (9, dict(moves=MOVES_LINE + b"0,1,0\n")),
             (9, dict(moves=moves_text([(0, 1, MOST_RATE + 1)]))),
             (10, dict(formula=b"& up\n")),
@@ -118,7 +118,7 @@ class Refusals(unittest.TestCase):
             (0, sheet(1)), (0, sheet(MOST_STATES)), (4, sheet(MOST_STATES + 1)), (4, sheet(0)),
             (4, dict(labels=b"state\n0\n0\n")), (4, dict(labels=b"state\n0\n2\n")),
             (0, sheet(91, moves_text(full[:MOST_MOVES]))), (5, sheet(91, moves_text(full[:MOST_MOVES + 1]))),
-            (8, sheet(3, MOVES_LINE + b"0,2,5\n0,1,5\n")),
+            (0, sheet(3, MOVES_LINE + b"0,2,5\n0,1,5\n")),
             (0, sheet(3, moves_text([(0, 1, half), (0, 2, half), (1, 0, MOST_RATE)]))),
             (9, sheet(3, moves_text([(0, 1, half), (0, 2, half + 1)]))),
             (9, sheet(6, MOVES_LINE + b"".join(b"0,%d,999999999\n" % s for s in range(1, 6)))),
@@ -215,13 +215,13 @@ class Refusals(unittest.TestCase):
         self.assertEqual(needed(refusal(MOVES, LABELS, deep * (MOST_LEVELS - 1) + b"up\n")).marks, 2 * (2 * MOST_LEVELS - 1))
 
     def test_moves_to_the_own_state(self):
-        """They count as lines, in 6, 8 and 9's sum, and are left out of q: 14 is not for them."""
+        """They count as lines, in 6 and 9's sum, and are left out of q: 14 is not for them."""
         def sheet(*moves, formula=b"tt\n"):
             return dict(moves=moves_text(moves), formula=formula)
         longest = until(MOST_HUNDREDTHS)
         self.check([
-            (0, sheet((0, 0, 2), (0, 1, 1), (1, 1, 3))), (6, sheet((2, 2, 1))), (8, sheet((0, 1, 3), (0, 0, 2))),
-            (8, sheet((0, 0, 1), (0, 0, 1))), (9, sheet((1, 1, 0))),
+            (0, sheet((0, 0, 2), (0, 1, 1), (1, 1, 3))), (6, sheet((2, 2, 1))), (0, sheet((0, 1, 3), (0, 0, 2))),
+            (0, sheet((0, 0, 1), (0, 0, 1))), (9, sheet((1, 1, 0))),
             (0, sheet((0, 0, MOST_RATE))), (9, sheet((0, 0, MOST_RATE), (0, 1, 1))), (0, sheet((0, 0, MOST_RATE - 1), (0, 1, 1))),
             (0, sheet((0, 0, MOST_RATE), formula=longest)), (0, sheet((0, 0, MOST_RATE - 1), (0, 1, 1), formula=longest)),
             (14, sheet((0, 0, 1), (0, 1, MOST_RATE - 1), formula=longest)),
@@ -229,7 +229,26 @@ class Refusals(unittest.TestCase):
         job = refusal(moves_text([(0, 0, MOST_RATE - 500), (0, 1, 500)]), LABELS, FORMULA)
         self.assertEqual((job.chain.q, job.chain.totals, needed(job).moves), (500, [MOST_RATE, 0], 4))
         rows = [(s, s, 1) for s in range(MOST_STATES)] * 9
-        self.check([(5, dict(moves=moves_text(rows[:MOST_MOVES + 1]), labels=states_text(MOST_STATES), formula=b"tt\n"))])
+        self.check([(number, dict(moves=moves_text(rows[:lines]), labels=states_text(MOST_STATES), formula=b"tt\n"))
+                    for number, lines in ((0, MOST_MOVES), (5, MOST_MOVES + 1))])
+
+    def test_lines_in_any_order(self):
+        """Lines may stand in any order and pairs repeat; 5 and 15 count lines, and 9 looks at each line's rate and at the totals."""
+        def sheet(*moves):
+            return dict(moves=moves_text(moves), formula=b"tt\n")
+        half = MOST_RATE // 2
+        self.check([
+            (0, sheet((1, 1, 3), (0, 1, 5), (1, 0, 2), (0, 0, 1))), (0, sheet((0, 1, 5), (1, 0, 2), (0, 1, 5))),
+            (0, sheet((0, 1, half), (0, 1, half))), (9, sheet((0, 1, half), (0, 1, half + 1))), (9, sheet((0, 1, half), (0, 0, half), (0, 1, 1))),
+            (0, sheet((0, 1, half), (1, 0, MOST_RATE), (0, 0, half))), (9, sheet((1, 0, 1), (0, 1, half), (0, 0, 1), (0, 1, half))),
+            (9, sheet((0, 1, 0), (0, 1, 5))), (9, sheet((0, 1, 5), (0, 1, 0))), (9, sheet((0, 1, 5), (1, 0, 1), (0, 1, MOST_RATE + 1))),
+            (6, sheet((1, 0, 0), (0, 1, MOST_RATE + 1), (0, 2, 1))), (9, sheet(*[(0, 1, 999_999_999)] * MOST_MOVES)),
+            (5, sheet(*[(0, 1, 1)] * (MOST_MOVES + 1))), (0, sheet(*[(0, 1, MOST_RATE // MOST_MOVES)] * MOST_MOVES)),
+        ])
+        twice = moves_text([(1, 0, 2), (0, 1, 5), (0, 1, 7)])
+        need = needed(refusal(twice, LABELS, b"tt\n"))
+        self.assertEqual(need.moves, 6)
+        self.check([(15, dict(moves=twice, formula=b"tt\n", lent=need._replace(moves=5))), (0, dict(moves=twice, formula=b"tt\n", lent=need))])
 
     def test_hours(self):
         """One or two decimals behind a point, the last not 0; ten digits before it."""
@@ -262,7 +281,7 @@ class Refusals(unittest.TestCase):
             (2, dict(moves=MOVES_LINE + b"0,1,5\n" * (MOST_MOVES + 1) + b"0,1\n")),
             (2, dict(labels=states_text(600) + b"x\n")),
             (6, dict(moves=MOVES_LINE + b"1,1,0\n0,1,0\n0,2,5\n")),
-            (8, dict(moves=MOVES_LINE + b"1,0,0\n0,0,0\n")), (8, dict(moves=MOVES_LINE + b"1,0,0\n0,1,5\n")),
+            (9, dict(moves=MOVES_LINE + b"1,0,0\n0,0,0\n")), (6, dict(moves=MOVES_LINE + b"1,0,0\n0,1,5\n1,2,5\n")),
             (3, dict(labels=b"names\n" + b"0\n" * 20_000)), (4, dict(labels=b"state\n" + b"0\n" * 20_000)),
             (2, dict(labels=b"state\n" + b"0\n" * 20_000 + b"x\n")),
             (1, dict(moves=b"x", formula=b"")), (2, dict(moves=MOVES_LINE + b"0\n", formula=b"&\n")),
@@ -305,6 +324,12 @@ class Reading(unittest.TestCase):
     def test_a_move_to_the_own_state_is_stored(self):
         job = refusal(moves_text([(0, 0, 2), (0, 1, 1)]), LABELS, FORMULA)
         self.assertEqual(job.chain.rates, {(0, 0): 2, (0, 1): 1})
+
+    def test_rates_of_a_pair_are_added(self):
+        """Wherever its lines stand, and to the own state too."""
+        job = refusal(moves_text([(1, 0, 4), (0, 1, 2), (1, 1, 1), (0, 1, 3), (1, 1, 6), (0, 1, 2)]), LABELS, FORMULA)
+        self.assertEqual(job.chain.rates, {(0, 1): 7, (1, 0): 4, (1, 1): 7})
+        self.assertEqual((job.chain.exits, job.chain.totals, job.chain.q), ([7, 4], [7, 11], 7))
 
     def test_accepted_job(self):
         job = refusal(MOVES, LABELS, FORMULA)

@@ -5,7 +5,7 @@ use mathlib.Core.List.{List, [], _∷_, _++_}
 use mathlib.Core.Option.{none, some}
 use Prim.Native.Nat.{ℕ, _≤_, _<_}
 use lib.Dec.{leb, ltb, eqb}
-use borrow.Author.Tests.{ltb-true, leb-true}
+use borrow.Author.Tests.{ltb-true, leb-true, eq-eqb}
 use Rattle.csl.specs.Text.{every}
 use Rattle.csl.specs.Limits.{formulaBytes}
 use Rattle.csl.specs.Grammar.{readFormula}
@@ -26,11 +26,20 @@ pub refusal-number-most : (j : Job) (lent : Buffers ℕ) (k : ℕ) → refusal j
 unfolding refusal textTests sheetTests formulaTests every
 refusal-number-most j lent k h = leb-true k 16 (first-number (λ n. leb n 16) (textTests j ++ (test 15 (shortBuffer j lent) ∷ [])) k refl h)
 
--- "7 is never given again"
+-- "7 is never given again", and "8 is never given again"
+unnumbered : (n : ℕ) (j : Job) (lent : Buffers ℕ) → every (λ x. not (eqb (x .number) n)) (textTests j ++ (test 15 (shortBuffer j lent) ∷ [])) ≡ true
+    → refusal j lent ≡ some n → ⊥
+unfolding refusal
+unnumbered n j lent h e =
+    absurd (false≢true (rw (eq-eqb n n refl) at (first-number (λ k. not (eqb k n)) (textTests j ++ (test 15 (shortBuffer j lent) ∷ [])) n h e)))
+
 pub refusal-number-not-7 : (j : Job) (lent : Buffers ℕ) → refusal j lent ≡ some 7 → ⊥
-unfolding refusal textTests sheetTests formulaTests every
-refusal-number-not-7 j lent h =
-    absurd (false≢true (first-number (λ n. not (eqb n 7)) (textTests j ++ (test 15 (shortBuffer j lent) ∷ [])) 7 refl h))
+unfolding textTests sheetTests formulaTests every
+refusal-number-not-7 j lent h = unnumbered 7 j lent refl h
+
+pub refusal-number-not-8 : (j : Job) (lent : Buffers ℕ) → refusal j lent ≡ some 8 → ⊥
+unfolding textTests sheetTests formulaTests every
+refusal-number-not-8 j lent h = unnumbered 8 j lent refl h
 
 pub text-number-most : (j : Job) (k : ℕ) → textRefusal j ≡ some k → k < 100
 unfolding textRefusal textTests sheetTests formulaTests every

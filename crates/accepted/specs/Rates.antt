@@ -49,7 +49,7 @@ pub moving-tested : (ms : List Move) → wrongRate ms ≡ false → Moving ms
 moving-tested ms h = above-0 (λ m. ltb mostRate (ratesOut ms (m .from))) ms h
 
 -- the share of one line in the sum over all targets
-line-share : (b : Bool) (r to n : ℕ) → to < n → sumTo (λ t. cond (b && eqb to t) r 0) n ≡ cond b r 0
+pub line-share : (b : Bool) (r to n : ℕ) → to < n → sumTo (λ t. cond (b && eqb to t) r 0) n ≡ cond b r 0
 unfolding sumTo
 line-share false r to n l = sum-none _ n (λ k i. refl)
 line-share true r to zero l = absurd (omega arith)

@@ -12,11 +12,11 @@ use Rattle.csl.specs.Text.{Text, bytes, same, every}
 use Rattle.csl.specs.Limits.{mostNames, mostStates, mostMoves, mostRate}
 use Rattle.csl.specs.Line.{firstLine, laterLines, fieldsOf}
 use Rattle.csl.specs.Labels.{isName, noRepeat, labelsHead, labelsLayout, inTurn, namesOf, statesOf}
-use Rattle.csl.specs.Moves.{movesHead, movesLayout, movesOf, isRising, ratesOut}
+use Rattle.csl.specs.Moves.{movesHead, movesLayout, movesOf, ratesOut}
 use Rattle.csl.specs.Sheet.{Sheet, sheetOf}
 use Rattle.csl.specs.Chain.{chainOf, greatest, topRate}
 use Rattle.numbers.specs.Sum.{greatest-cong, greatest-most}
-use Rattle.csl.specs.Refusal.{brokenLayout, wrongFirstLine, wrongStates, manyMoves, strangeState, notRising, wrongRate, sheetTests, firstOf}
+use Rattle.csl.specs.Refusal.{brokenLayout, wrongFirstLine, wrongStates, manyMoves, strangeState, wrongRate, sheetTests, firstOf}
 use Rattle.accepted.specs.Order.{neither, NoneHolds, first-none}
 use Rattle.accepted.specs.Rates.{Within, Moving, within-tested, rates-tested, moving-tested, others, others-slower, exit-by-lines}
 
@@ -28,7 +28,6 @@ pub record Sound (sheet : Sheet) : Type 0 where
   pub no-repeat : noRepeat (sheet .names) ≡ true
   pub few-moves : length (sheet .moves) ≤ mostMoves
   pub within : Within (sheet .states) (sheet .moves)
-  pub rising : isRising (sheet .moves) ≡ true
   pub slow : (s : ℕ) → ratesOut (sheet .moves) s ≤ mostRate
   pub moving : Moving (sheet .moves)
 
@@ -80,7 +79,7 @@ module _ (moves labels : Text) (n : NoneHolds (sheetTests moves labels)) where
       neither no many (neither (no || many) (not (inTurn 0 (laterLines labels))) (n .1 .1 .1 .0) .0)
 
   sound-texts : Sound (sheetOf moves labels)
-  unfolding NoneHolds sheetTests manyMoves notRising
+  unfolding NoneHolds sheetTests manyMoves
   sound-texts =
       record {
         some-state = let z : statesOf labels ≡ 0 → ⊥ = eqb-false _ _ (states .0) in omega arith;
@@ -89,9 +88,8 @@ module _ (moves labels : Text) (n : NoneHolds (sheetTests moves labels)) where
         no-repeat = names .1;
         few-moves = ltb-false _ _ (n .1 .1 .1 .1 .0);
         within = within-tested (statesOf labels) (movesOf moves) (n .1 .1 .1 .1 .1 .0);
-        rising = not-false _ (n .1 .1 .1 .1 .1 .1 .0);
-        slow = λ s. rates-tested (movesOf moves) (n .1 .1 .1 .1 .1 .1 .1 .0) s;
-        moving = moving-tested (movesOf moves) (n .1 .1 .1 .1 .1 .1 .1 .0);
+        slow = λ s. rates-tested (movesOf moves) (n .1 .1 .1 .1 .1 .1 .0) s;
+        moving = moving-tested (movesOf moves) (n .1 .1 .1 .1 .1 .1 .0);
       }
 
 pub sheet-passed : (moves labels : Text) → firstOf (sheetTests moves labels) ≡ none → SheetPassed moves labels
@@ -103,6 +101,6 @@ sheet-passed moves labels h =
       labels-layout = layouts moves labels n .1;
       labels-head = head moves labels n;
       known-states = n .1 .1 .1 .1 .1 .0;
-      good-rates = n .1 .1 .1 .1 .1 .1 .1 .0;
+      good-rates = n .1 .1 .1 .1 .1 .1 .0;
       sound = sound-texts moves labels n;
     }

@@ -14,7 +14,7 @@ use Rattle.csl.specs.Formula.{Formula, nodes}
 use Rattle.csl.specs.Grammar.{readFormula}
 use Rattle.csl.specs.Chain.{chainOf, topRate}
 use Rattle.csl.specs.Lent.{Buffers, lengths, needed, isShort}
-use Rattle.csl.specs.Refusal.{Job, jobChain, jobFormula, Outcome, outcome, textRefusal, outOfBytes, sheetTests, formulaTests, shortBuffer, firstOf}
+use Rattle.csl.specs.Refusal.{Job, jobStates, jobMoves, jobChain, jobFormula, Outcome, outcome, textRefusal, outOfBytes, sheetTests, formulaTests, shortBuffer, firstOf}
 use Rattle.csl.specs.Finished.{Answer, refusedWith, acceptedWith, Finished, FinishedBy}
 use Rattle.accepted.specs.Sheet.{SheetPassed, sheet-passed}
 use Rattle.accepted.specs.Formula.{FormulaPassed, formula-passed}
@@ -39,22 +39,30 @@ use Rattle.refusals.specs.declared.sheet_tests.Dimensions.{Dimensions}
 use Rattle.refusals.specs.declared.sheet_tests.TestedSheet.{TestedSheet}
 use Rattle.checker.specs.declared.Checked.{Checked}
 use Rattle.checker.specs.Job.{statesIn}
+use Rattle.checker.specs.Leaves.{leftBy, leaves}
 use Rattle.checker.specs.Checked.{turnedBack, acceptedOver, SheetReady}
 use Rattle.checker.specs.Room.{has-room}
 use Rattle.checker.specs.Report.{formulaIn, ReportAsked, ReportLeft}
 
 -- what is promised of a checked job
 abbrev pub Ended : Job → (before : Buffers (List ℕ)) → Checked → (after : Buffers (List ℕ)) → Type 0
-Ended j before x after = Finished j before (answerOf (x .answer)) after × (x .states ≡ statesIn (outcome j (lengths before)))
+Ended j before x after =
+    Finished j before (answerOf (x .answer)) after × ((after ≡ leaves j before) × (x .states ≡ statesIn (outcome j (lengths before))))
 
 module _ (j : Job) (before : Buffers (List ℕ)) where
   by : {o : Outcome} (x : Answer) (after : Buffers (List ℕ)) → outcome j (lengths before) ≡ o → FinishedBy j o before x after → Finished j before x after
   unfolding Finished
   by x after e f = subst (λ (o : Outcome). FinishedBy j o before x after) (sym e) f
 
+  -- the buffers, by the outcome
+  left : {o : Outcome} {after : Buffers (List ℕ)} → outcome j (lengths before) ≡ o → after ≡ leftBy (jobStates j) (length (jobMoves j)) o before
+      → after ≡ leaves j before
+  unfolding leaves
+  left e h = h ∙ ap (λ (o : Outcome). leftBy (jobStates j) (length (jobMoves j)) o before) (sym e)
+
   turned : (k : ℕ) → outcome j (lengths before) ≡ Outcome.refused k → Ended j before (turnedBack k) before
-  unfolding FinishedBy
-  turned k e = (by (refusedWith k) before e (record { answer = refl; untouched = refl }), ap statesIn (sym e))
+  unfolding FinishedBy leftBy
+  turned k e = (by (refusedWith k) before e (record { answer = refl; untouched = refl }), (left e refl, ap statesIn (sym e)))
 
   pub turned-by-texts : (k : ℕ) → textRefusal j ≡ some k → {x : Checked} → x ≡ turnedBack k → Ended j before x before
   turned-by-texts k h e = rw e (turned k (refused-by-texts j (lengths before) k h))
@@ -171,10 +179,11 @@ module _ (j : Job) (d : Dimensions) (r : SheetReady j d) where
 
             pub job-reported : {after : Buffers (List ℕ)} {depth : ℕ} → ReportLeft (j .moves) (j .labels) x before after depth
                 → {c : Checked} → c ≡ acceptedOver (d .states) depth → Ended j before c after
-            unfolding FinishedBy chainOf
+            unfolding FinishedBy chainOf leftBy
             job-reported {after = after} {depth = depth} f is =
                 let e = accepted-by-all j (lengths before) passes (sym short-is ∙ g) in
-                let l : ReportLeft (j .moves) (j .labels) x before after depth = f in rw is (
+                let l : ReportLeft (j .moves) (j .labels) x before after depth = f in
+                rw is (
                   by j before (acceptedWith depth) after e
                       (record {
                         lower = reportLower (jobChain j) (jobFormula j);
@@ -184,5 +193,5 @@ module _ (j : Job) (d : Dimensions) (r : SheetReady j d) where
                         reported = report-found (jobChain j) (jobFormula j) (good .fitting .loads);
                         buffers = rw (← count-is) (report-filled (rw formula-is at (l .each)));
                       }),
-                  ap (λ (y : Dimensions). y .states) (r .is) ∙ ap statesIn (sym e),
+                  (left j before e (rw (← count-is) (report-filled (rw formula-is at (l .each)))), ap (λ (y : Dimensions). y .states) (r .is) ∙ ap statesIn (sym e)),
                 )

@@ -9,6 +9,8 @@ use lib.ListN.{length, take, drop, replicate, length-drop, length-replicate, Lis
 use lib.Seq.{length-take-le, getD-take, getD-drop, ext-getD}
 use lib.Dec.{ltb}
 use borrow.Author.Tests.{ltb-true, ltb-false}
+use mir.Val.{Fits}
+use mir.Syntax.{w64}
 use Rattle.csl.specs.Text.{Text}
 use Rattle.csl.specs.Limits.{mostStates, mostMoves, mostNodes, mostLevels, movePlaces}
 use Rattle.csl.specs.Labels.{namesOf, statesOf}
@@ -33,7 +35,7 @@ use Rattle.results.specs.Column.{column-length, column-as, written-length, writ
 use Rattle.worst_first.specs.Asked.{SortAsked}
 use Rattle.refusals.specs.declared.sheet_tests.Dimensions.{Dimensions}
 use Rattle.sheet_words.specs.Stored.{StoreAsked, Stored}
-use Rattle.sheet_words.specs.Shown.{sheet-shown, sheet-owns, marks-shown}
+use Rattle.sheet_words.specs.Shown.{sheet-owns, marks-shown}
 use Rattle.decide.specs.Asked.{DecideAsked, Decides, formulaOf}
 use Rattle.decide.specs.Fits.{each-below}
 use Rattle.checker.specs.Job.{buffers}
@@ -82,6 +84,15 @@ module _ {m₀ labels : Text} {d : Dimensions} {x : Nodes} {words₀ vectors₀ 
   pub some : 1 ≤ x .count
   some = some-node (r .ready)
 
+  pub few-moves : d .moves ≤ mostMoves
+  few-moves = omega (arith, moves-are (r .ready), r .ready .passed .sound .few-moves)
+
+  pub end-fits : Fits w64 (d .moves + d .moves)
+  end-fits = omega (arith, few-moves)
+
+  pub byte-fits : Fits w64 (d .moves * 8)
+  byte-fits = omega (arith, few-moves)
+
   pub rows-few : x .count * d .states ≤ mostNodes * mostStates
   rows-few = few-marks (r .ready)
 
@@ -125,9 +136,6 @@ module _ {m₀ labels : Text} {d : Dimensions} {x : Nodes} {words₀ vectors₀ 
     pub index-counted : length (behind (d .moves) words) ≡ d .moves
     index-counted = rw (behind-is (d .moves) words) (length-take-le (d .moves) (drop (d .moves) words) (omega (arith, index-long, length-drop (d .moves) words)))
 
-    pub few-moves : d .moves ≤ mostMoves
-    few-moves = omega (arith, moves-are (r .ready), r .ready .passed .sound .few-moves)
-
     pub marks-long : x .count * d .states ≤ length marks
     marks-long = omega (arith, r .in-marks, z .same)
 
@@ -144,7 +152,7 @@ module _ {m₀ labels : Text} {d : Dimensions} {x : Nodes} {words₀ vectors₀ 
           c = chainIn m₀ labels;
           names = namesOf labels;
           few = r .ready .passed .sound .few-names;
-          shows = rw (moves-are (r .ready), states-are (r .ready)) (sheet-shown (r .ready .passed) s);
+          shows = rw (moves-are (r .ready), states-are (r .ready)) (s .shows);
           prepared = rw (moves-are (r .ready), states-are (r .ready), q-is (r .ready)) (s .prepared);
           owns = rw (states-are (r .ready)) (sheet-owns (r .ready .passed) s);
           few-words = omega (arith, index-counted, few-moves);

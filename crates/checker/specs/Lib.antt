@@ -3,3 +3,5 @@ pub mod Job
 pub mod Checked
 pub mod Room
 pub mod Report
+pub mod Leaves
+pub mod Alike

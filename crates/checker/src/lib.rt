@@ -11,6 +11,7 @@ ghost use Rattle.csl.specs.Refusal.{outcome};
 ghost use Rattle.csl.specs.Finished.{Finished};
 ghost use Rattle.verdicts.specs.Paper.{answerOf};
 ghost use Rattle.checker.specs.Job.{job, buffers, statesIn};
+ghost use Rattle.checker.specs.Leaves.{leaves};
 ghost use Rattle.checker.specs.Checked.{turnedBack, acceptedOver, SheetReady};
 
 // The answer to a job, and how many states a report has; none where the job is refused.
@@ -61,6 +62,11 @@ fn check_formula(
         (answerOf (r .answer))
         (buffers (now (lower .exit)) (now (upper .exit)) (now (verdicts .exit)) (now (order .exit))
         (now (words .exit)) (now (vectors .exit)) (now (marks .exit))) ⌝ }
+    ensures found { λ _. ⌜ buffers (now (lower .exit)) (now (upper .exit)) (now (verdicts .exit)) (now (order .exit))
+        (now (words .exit)) (now (vectors .exit)) (now (marks .exit))
+        ≡ leaves (job (now (moves .entry)) (now (labels .entry)) (now (formula .entry)))
+        (buffers (now (lower .entry)) (now (upper .entry)) (now (verdicts .entry)) (now (order .entry))
+        (now (words .entry)) (now (vectors .entry)) (now (marks .entry))) ⌝ }
     ensures counted { λ r. ⌜ r .states ≡ statesIn (outcome
         (job (now (moves .entry)) (now (labels .entry)) (now (formula .entry)))
         (lengths
@@ -107,9 +113,10 @@ fn check_formula(
 // Checks a job. With n states and m move lines the caller lends n lower and upper numbers, verdict bytes and numbers for the order, two move
 // words for each line, the vector words that crates/vectors lays out, and n mark bytes for each node.
 //
-// Open, as in document 01, are the two ends of a `P` (numbers that keep the rules for ends), and the verdicts and later ends that follow
-// from them. All else is determined, for all texts and lengths: refused or accepted, the number or the depth, and every place of every
-// lent buffer.
+// `finished` leaves open what document 01 does: the two ends of a `P` (numbers that keep the rules for ends), and the verdicts and later ends that
+// follow from them. All else is determined, for all texts and lengths: refused or accepted, the number or the depth, and every place of every
+// lent buffer. `found` says which ends they are, by the chain and the formula alone: so move lines in another order leave the same bytes, and so do
+// repeated pairs in the results (`same-bytes` and `same-report` of specs/Alike).
 pub fn check(
     moves: &[u8],
     labels: &[u8],
@@ -129,6 +136,11 @@ pub fn check(
         (answerOf (r .answer))
         (buffers (now (lower .exit)) (now (upper .exit)) (now (verdicts .exit)) (now (order .exit))
         (now (words .exit)) (now (vectors .exit)) (now (marks .exit))) ⌝ }
+    ensures found { λ _. ⌜ buffers (now (lower .exit)) (now (upper .exit)) (now (verdicts .exit)) (now (order .exit))
+        (now (words .exit)) (now (vectors .exit)) (now (marks .exit))
+        ≡ leaves (job (now (moves .entry)) (now (labels .entry)) (now (formula .entry)))
+        (buffers (now (lower .entry)) (now (upper .entry)) (now (verdicts .entry)) (now (order .entry))
+        (now (words .entry)) (now (vectors .entry)) (now (marks .entry))) ⌝ }
     ensures counted { λ r. ⌜ r .states ≡ statesIn (outcome
         (job (now (moves .entry)) (now (labels .entry)) (now (formula .entry)))
         (lengths

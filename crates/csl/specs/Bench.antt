@@ -21,6 +21,7 @@ use Rattle.csl.specs.Report.{Reported, reportText, depthOf}
 use Rattle.csl.specs.Order.{worstFirst}
 use Rattle.csl.specs.Lent.{Buffers, needed, lengths, filled}
 use Rattle.csl.specs.Refusal.{Job, jobStates, jobChain, jobFormula, refusal, outcome, accepted}
+use Rattle.csl.specs.Copy.{copyText, copyRefusal, copied, Copied}
 
 -- a job over the labels of the small sheet
 abbrev pub jobOf : String → String → Job
@@ -55,9 +56,9 @@ restarts formula = jobOf "from,to,rate\n0,0,2\n0,1,1\n" formula
 abbrev pub onlyRestarts : String → Job
 onlyRestarts formula = jobOf "from,to,rate\n0,0,64000000\n" formula
 
--- lent lengths that do for two states, two moves and any formula
+-- lent lengths that do for two states, five move lines and any formula
 abbrev pub enough : Buffers ℕ
-enough = needed 2 2 mostNodes
+enough = needed 2 5 mostNodes
 
 -- the buffers for the small sheet and one node, with this order buffer and these move words
 abbrev pub lentAs : (order moves : List ℕ) → Buffers (List ℕ)
@@ -78,6 +79,10 @@ Accepts j f q d = outcome j enough ≡ accepted (jobChain j) f q d
 
 abbrev pub Refuses : Job → ℕ → Type 0
 Refuses j number = refusal j enough ≡ some number
+
+-- over the labels of the small sheet, a moves text has this copy
+abbrev pub Copies : String → String → Type 0
+Copies moves copy = copyText (bytes moves) (jobOf moves "" .labels) ≡ bytes copy
 
 -- the line of names
 abbrev pub lineOfNames : Text
@@ -176,11 +181,9 @@ pub record NextMoves : Type 0 where
   pub only-restarts : Accepts (onlyRestarts "P < 1 U 8760 up dead\n") (chance Less 1 (until (8760 * hour) up dead)) 0 40
   pub only-restarts-printed : Prints (onlyRestarts "P < 1 U 8760 up dead\n")
       "0,0,0,40,yes\n1,1000000000,1000000000,40,no\n" "1,1000000000,1000000000,40,no\n0,0,0,40,yes\n"
-  -- they count "in 9's sum", and in 6 and 8 like any move
+  -- they count "in 9's sum", and in 6 like any move
   pub high-sum : Refuses (jobOf "from,to,rate\n0,0,64000000\n0,1,1\n" "tt\n") 9
   pub strange-restart : Refuses (jobOf "from,to,rate\n2,2,1\n" "tt\n") 6
-  pub falling-restart : Refuses (jobOf "from,to,rate\n0,1,3\n0,0,2\n" "tt\n") 8
-  pub twice : Refuses (jobOf "from,to,rate\n0,0,2\n0,0,2\n" "tt\n") 8
 
 -- The second listing and the order buffer, over the small sheet; its printed rows are above.
 pub record SecondListing : Type 0 where
@@ -256,6 +259,31 @@ pub record NotBeforeAnHour : Type 0 where
   pub no-moves-printed : Prints (still "P >= 5 V 1 8 tt dead\n")
       "0,0,0,80,no\n1,1000000000,1000000000,80,yes\n" "1,1000000000,1000000000,80,yes\n0,0,0,80,no\n"
   pub first-operand-fails : Prints (still "P >= 5 V 1 8 up dead\n") "0,0,0,80,no\n1,0,0,80,no\n" "0,0,0,80,no\n1,0,0,80,no\n"
+
+-- Moves in any order, and copies of them, over the labels of the small sheet.
+pub record AnyOrder : Type 0 where
+  -- "lines may stand in any order and repeated pairs are added together; 8 is never given again": a sheet whose rates are those of `restarts`
+  pub added-together : Accepts (jobOf "from,to,rate\n0,1,1\n0,0,1\n0,0,1\n" "P >= 333333334 X dead\n") (chance AtLeast 333333334 (nextMove dead)) 1 0
+  pub falling : Accepts (jobOf "from,to,rate\n1,0,5\n0,1,500\n" "P <= 10000000 U 8 up dead\n") (chance AtMost 10000000 (until eight up dead)) 500 42
+  -- "9 looks at each line's rate and at the totals": 0 in a line though its pair has a rate; over 64,000,000 in one line, or in two together
+  pub no-rate : Refuses (jobOf "from,to,rate\n0,1,5\n0,1,0\n" "tt\n") 9
+  pub one-line-over : Refuses (jobOf "from,to,rate\n0,1,64000001\n" "tt\n") 9
+  pub two-lines-over : Refuses (jobOf "from,to,rate\n0,1,64000000\n1,0,1\n0,1,1\n" "tt\n") 9
+  pub two-lines-full : Accepts (jobOf "from,to,rate\n0,1,63999999\n0,1,1\n" "P >= 5 U 1 up dead\n") (chance AtLeast 5 (until hour up dead)) 64000000 168
+  -- 15 counts lines
+  pub lines-counted : refusal (jobOf "from,to,rate\n0,1,250\n0,1,250\n" "tt\n") (lengths (lentAs (7 ∷ 7 ∷ []) (replicate 3 7))) ≡ some 15
+  -- "the moves text that document 01 described, moves to the own state included, pairs rising and none twice"
+  pub copy : Copies "from,to,rate\n1,0,5\n0,1,20\n0,1,30\n1,1,4\n1,0,95\n" "from,to,rate\n0,1,50\n1,0,100\n1,1,4\n"
+  pub copy-of-a-copy : Copies "from,to,rate\n0,1,50\n1,0,100\n1,1,4\n" "from,to,rate\n0,1,50\n1,0,100\n1,1,4\n"
+  pub copy-without-moves : Copies "from,to,rate\n" "from,to,rate\n"
+  -- "It answers with the copy's length; bytes beyond are unchanged"; "17 when the buffer for the copy is too short, tested last"
+  pub copied-beyond : Copied (bytes "from,to,rate\n") (bytes "state\n0\n") (replicate 15 7) (copied 13) (bytes "from,to,rate\n" ++ (7 ∷ 7 ∷ []))
+  pub copy-fits : copyRefusal (bytes "from,to,rate\n0,0,5\n0,0,5\n") (bytes "state\n0\n") 20 ≡ none
+  pub copy-short : copyRefusal (bytes "from,to,rate\n0,0,5\n0,0,5\n") (bytes "state\n0\n") 19 ≡ some 17
+  pub tested-last : copyRefusal (bytes "from,to,rate\n0,0,0\n") (bytes "state\n0\n") 0 ≡ some 9
+  -- "tests 1 to 9", of these two texts
+  pub empty-moves : copyRefusal [] (bytes "state\n0\n") 0 ≡ some 1
+  pub strange-copy : copyRefusal (bytes "from,to,rate\n0,1,5\n") (bytes "state\n0\n") 0 ≡ some 6
 
 -- "`P <= 10000000 U 8 up dead`: .. lower ≤ 3,992,010, upper ≥ 3,992,011, width ≤ 168, yes at state 0", of every report
 pub record EightHours (lower upper : ℕ → ℕ) (v : ℕ → Verdict) : Type 0 where

@@ -34,12 +34,14 @@ pub mod Settled
 pub mod Backing
 pub mod Throughout
 pub mod Grammar
+pub mod Decimal
 pub mod Order
 pub mod Listing
 pub mod Bench
 pub mod BenchNext
 pub mod BenchGraph
 pub mod BenchBetween
+pub mod BenchOrder
 pub mod Trial
 pub mod WholeHours
 pub mod EightHours

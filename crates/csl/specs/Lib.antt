@@ -28,6 +28,7 @@ pub mod Report
 pub mod Lent
 pub mod Refusal
 pub mod Finished
+pub mod Copy
 pub mod Bench
 pub mod Theorems
 pub mod Laws

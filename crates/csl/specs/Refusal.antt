@@ -11,7 +11,7 @@ use Rattle.csl.specs.Text.{Text, among, any}
 use Rattle.csl.specs.Limits.{mostStates, mostMoves, mostRate, formulaBytes, sheetBytes, mostNodes, mostLevels, mostThreshold, mostHundredths, mostRateHundredths}
 use Rattle.csl.specs.Line.{laterLines}
 use Rattle.csl.specs.Labels.{labelsHead, labelsLayout, inTurn, statesOf}
-use Rattle.csl.specs.Moves.{Move, movesHead, movesLayout, movesOf, isRising, ratesOut}
+use Rattle.csl.specs.Moves.{Move, movesHead, movesLayout, movesOf, ratesOut}
 use Rattle.csl.specs.Formula.{Formula, always, PathOf, nodes, levels, labelsPass, timesPass, phasesPass, timesInOrder, pathsPass}
 use Rattle.csl.specs.Grammar.{readFormula}
 use Rattle.csl.specs.Sheet.{Sheet, sheetOf}
@@ -70,11 +70,9 @@ strangeState states ms = any (λ m. leb states (m .from) || leb states (m .to)) 
 
 -- 7, "a move to its own state", "is never given again": "such moves are now read and stored".
 
--- 8: "moves not rising, or a pair twice"
-unfoldable pub notRising : List Move → Bool
-notRising ms = not (isRising ms)
+-- 8, "moves not rising, or a pair twice", "is never given again": "lines may stand in any order".
 
--- 9: "rate 0, or a state's rates over 64,000,000": moves to the own state count "in 9's sum"
+-- 9: "rate 0, or a state's rates over 64,000,000": it "looks at each line's rate and at the totals", in which moves to the own state count
 abbrev pub wrongRate : List Move → Bool
 wrongRate ms = any (λ m. eqb (m .rate) 0 || ltb mostRate (ratesOut ms (m .from))) ms
 
@@ -126,7 +124,7 @@ unfoldable pub sheetTests : (moves labels : Text) → List Test
 sheetTests moves labels =
     test 1 (outOfBytes sheetBytes moves || outOfBytes sheetBytes labels) ∷ test 2 (brokenLayout moves labels)
     ∷ test 3 (wrongFirstLine moves labels) ∷ test 4 (wrongStates labels) ∷ test 5 (manyMoves (movesOf moves))
-    ∷ test 6 (strangeState (statesOf labels) (movesOf moves)) ∷ test 8 (notRising (movesOf moves)) ∷ test 9 (wrongRate (movesOf moves)) ∷ []
+    ∷ test 6 (strangeState (statesOf labels) (movesOf moves)) ∷ test 9 (wrongRate (movesOf moves)) ∷ []
 
 -- those of a formula, if its text spells one, over a sheet that passed and has these label names and this uniformisation rate
 unfoldable pub formulaTests : List Text → ℕ → Option Formula → List Test

@@ -33,7 +33,7 @@ use Rattle.csl.specs.Truth.{Obeys, Throughout}
 use Rattle.csl.specs.Order.{isAbove, worstFirst, Ranks, InOrder}
 use Rattle.csl.specs.Report.{Reported, backingOf, depthOf}
 use Rattle.csl.specs.Refusal.{Job, jobChain, formulaTests, firstOf, formulaFrom, isMissing, largeFormula, strangeLabel, wrongBound, wrongTimes, highLoad}
-use Rattle.csl.specs.Bench.{small, up, dead, eight, Accepts, BenchValues, DecimalHours, NextMoves, SecondListing, PossibleAndCertain, NotBeforeAnHour, EightHours, TrialQuotients}
+use Rattle.csl.specs.Bench.{small, up, dead, eight, Accepts, BenchValues, DecimalHours, NextMoves, SecondListing, PossibleAndCertain, NotBeforeAnHour, AnyOrder, EightHours, TrialQuotients}
 use Rattle.csl.specs.Laws.Computing.{computing}
 use Rattle.csl.specs.Laws.Fraction.{under-below}
 use Rattle.csl.specs.Laws.Steps.{step-le, step-rises, divisor-some}
@@ -58,6 +58,7 @@ use Rattle.csl.specs.Laws.Bench as bench
 use Rattle.csl.specs.Laws.BenchNext as next-bench
 use Rattle.csl.specs.Laws.BenchGraph as graph-bench
 use Rattle.csl.specs.Laws.BenchBetween as between-bench
+use Rattle.csl.specs.Laws.BenchOrder as order-bench
 use Rattle.csl.specs.Laws.Trial as trial
 use Rattle.csl.specs.Laws.EightHours as hours
 use Rattle.csl.specs.Laws.WholeHours as without-point
@@ -234,6 +235,9 @@ possible-and-certain = graph-bench.possible-and-certain
 
 pub not-before-an-hour : NotBeforeAnHour
 not-before-an-hour = between-bench.not-before-an-hour
+
+pub moves-in-any-order : AnyOrder
+moves-in-any-order = order-bench.any-order
 
 pub eight-hours-of-every-report : (lower upper : ℕ → ℕ) (v : ℕ → Verdict)
     → Reported (jobChain (small "P <= 10000000 U 8 up dead\n")) (chance AtMost 10000000 (until eight up dead)) lower upper v → EightHours lower upper v

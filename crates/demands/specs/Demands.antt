@@ -30,6 +30,7 @@ use Rattle.csl.specs.Refusal.{Job, jobStates, jobMoves, jobChain, jobFormula, r
 use Rattle.csl.specs.Finished.{Answer, refusedWith, acceptedWith, Finished}
 use Rattle.csl.specs.Theorems as theorems
 use Rattle.accepted.specs.Rates.{others}
+use Rattle.accepted.specs.Job.{refusal-number-not-7, refusal-number-not-8}
 use Rattle.demands.specs.Proved as proved
 use Rattle.demands.specs.Proved.{TheReport, agrees-here}
 
@@ -41,9 +42,12 @@ module _ (j : Job) (before : Buffers (List ℕ)) (a : Answer) (after : Buffers (
       × TheReport j before after lower upper v)
   one-report-or-one-number = proved.one-answer j before a after finished
 
-  -- and 7 "is never given again"
+  -- and 7 "is never given again", nor is 8
   pub seven-is-never-given : a ≡ refusedWith 7 → ⊥
-  seven-is-never-given h = proved.not-seven j before a after finished h
+  seven-is-never-given h = proved.never j before a after 7 (refusal-number-not-7 j (lengths before)) finished h
+
+  pub eight-is-never-given : a ≡ refusedWith 8 → ⊥
+  eight-is-never-given h = proved.never j before a after 8 (refusal-number-not-8 j (lengths before)) finished h
 
   -- Demand 2. "Read and decided as 01 defines: accepted when layouts and limits hold and only then; .. depth .. exact". The number is that of
   -- the first test that holds; the chain, with its rates and labels, and the formula are those of the texts (csl's jobChain, jobFormula).

@@ -26,7 +26,7 @@ use Rattle.accepted.specs.Order.{first-found}
 use Rattle.accepted.specs.Rates.{others}
 use Rattle.accepted.specs.Rates as rates
 use Rattle.accepted.specs.Sheet.{Sound}
-use Rattle.accepted.specs.Job.{refusal-number-some, refusal-number-most, refusal-number-not-7, passed}
+use Rattle.accepted.specs.Job.{refusal-number-some, refusal-number-most, passed}
 
 -- a report with its backing, in the buffers
 abbrev pub TheReport : Job → (before after : Buffers (List ℕ)) → (lower upper : ℕ → ℕ) → (ℕ → Verdict) → Type 0
@@ -71,12 +71,13 @@ module _ (j : Job) (before : Buffers (List ℕ)) (a : Answer) (after : Buffers (
       go none e = refl
       go (some k) e = differ k d a e h
 
-  pub not-seven : Finished j before a after → a ≡ refusedWith 7 → ⊥
-  not-seven f h = go (refusal j (lengths before)) refl (said _ (by f))
+  -- a number that no test has is not given
+  pub never : (number : ℕ) → (refusal j (lengths before) ≡ some number → ⊥) → Finished j before a after → a ≡ refusedWith number → ⊥
+  never number d f h = go (refusal j (lengths before)) refl (said _ (by f))
     where
       go : (o : Option ℕ) → refusal j (lengths before) ≡ o → Said o → ⊥
-      go none e k = differ 7 _ a h k
-      go (some n) e k = refusal-number-not-7 j (lengths before) (e ∙ ap (λ (x : ℕ). some x) (same-number n 7 a k h))
+      go none e k = differ number _ a h k
+      go (some n) e k = d (e ∙ ap (λ (x : ℕ). some x) (same-number n number a k h))
 
   answered : (o : Option ℕ) → refusal j (lengths before) ≡ o → By o
       → ((number : ℕ) × (a ≡ refusedWith number) × (1 ≤ number) × (number ≤ 16) × (after ≡ before))

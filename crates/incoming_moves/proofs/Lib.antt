@@ -1,5 +1,4 @@
 -- Laws behind the proofs of `incoming_moves`.
-pub mod EnterLaw
 pub mod CountLaw
 pub mod BeginLaw
 pub mod PlaceLaw

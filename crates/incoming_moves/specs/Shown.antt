@@ -116,7 +116,7 @@ module _ {c : Chain} {mv mv' mv₁ old new : List ℕ} (index : List ℕ) {m own
   -- the word at the place of move j
   word-of : (j k : ℕ) → j < m → placeOf mv m j ≡ k → k < m → wordTo (at index k) ≡ fromOf mv j
   word-of j k h e l =
-      let z : at mv' (m + k) ≡ indexWord (at mv j) = ap (λ (x : ℕ). at mv' (m + x)) (sym e) ∙ p .placed .index j h in
+      let z : at mv' (m + k) ≡ indexWord (at mv j) = ap (λ (x : ℕ). at mv' (m + x)) (sym e) ∙ p .placed .placed j h in
       ap wordTo (behind k l ∙ z)
       ∙ to-packed (toOf mv j) (fromOf mv j) 0 (omega (arith, a .targets j h, a .states)) (omega (arith, a .sources j h, a .states))
 

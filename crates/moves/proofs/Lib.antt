@@ -2,7 +2,8 @@
 pub mod LineLaw
 pub mod KnownLaw
 pub mod TotalsLaw
+pub mod TallyLaw
+pub mod TellingLaw
 pub mod ReadLaw
-pub mod FactsLaw
 pub mod TextLaw
 pub mod StoreLaw

@@ -1,27 +1,21 @@
-// The rates of rising lines: those of the lines from one state, which stand together, add up to the state's total, and those to other states
-// to what leaves it. The sums are carried in 32 bits; how is the affair of this module alone, and what they tell at last is stated by the
-// totals (`Telling` of `TotalsLaw`).
+// The totals of the states' rates: for each state the sum of the rates on all its lines, and of those to the state itself. They are carried in
+// 32 bits; how is the affair of this module alone, and what they come to is stated by the moves (`Tallied`).
+use limits::MOST_STATES;
 ghost use mathlib.Core.Path.{_≡_};
 ghost use Prim.Native.Nat.{_+_, _≤_, _<_, max};
-ghost use mathlib.Core.Bool.{cond};
-ghost use Rattle.csl.specs.Limits.{billion};
-ghost use Rattle.moves.specs.Totals.{tooHigh, carried, sumAfter, TotalsFit, totalsBegun, totalsAdded};
+ghost use Rattle.csl.specs.Limits.{billion, mostStates};
+ghost use Rattle.csl.specs.Chain.{greatest};
+ghost use Rattle.numbers.specs.Filled.{at};
+ghost use Rattle.moves.specs.Totals.{tooHigh, carried, placeOf, rateAdded, ownAdded, Carried, awayOf};
 
 // The most that a state's rates may add up to.
-const MOST_RATE: u32 = limits::MOST_RATE as u32;
+pub const MOST_RATE: u32 = limits::MOST_RATE as u32;
 
 // One above it, which stands for every sum that is too high.
 const TOO_HIGH: u32 = MOST_RATE + 1;
 
-// The state that the last line leaves, the sum of its rates so far, and what of it goes to other states, both up to `TOO_HIGH`; the greatest
-// that goes from one state to others; and whether a rate was 0 or a sum too high.
-pub struct Totals {
-    pub from: u64,
-    pub sum: u32,
-    pub away: u32,
-    pub top: u64,
-    pub wrong: bool,
-}
+// As many sums as there are states in the largest sheet.
+const PLACES: u64 = MOST_STATES as u64;
 
 // A sum and a rate more. Whether they come to too much is tested before they are added, since 32 bits may not hold it.
 fn tested_sum(sum: u32, rate: u32) -> u32
@@ -36,63 +30,60 @@ fn tested_sum(sum: u32, rate: u32) -> u32
     both
 }
 
-// What is kept of a sum before a line that goes on from the same state or not.
-fn kept(on: bool, sum: u32) -> u32
-    ensures { λ r. ⌜ r ≡ cond on sum 0 ⌝ }
+// Adds a rate to the sum of a state. A line may name a state past the last place; then the sums are not asked for.
+fn add_rate(sums: &mut [u32; MOST_STATES], state: u64, rate: u64)
+    requires { ⌜ (at (now sums) (placeOf state) ≤ tooHigh) × (rate < billion) ⌝ }
+    ensures { λ _. ⌜ now (sums .exit) ≡ rateAdded (now (sums .entry)) state rate ⌝ }
 {
-    if on { sum } else { 0 }
+    let place = (state % PLACES) as usize;
+    let sum = sums[place];
+    sums[place] = tested_sum(sum, rate as u32);
 }
 
-// The sum with a line of this rate, which goes on from the same state or not.
-fn sum_after(on: bool, sum: u32, rate: u64) -> u32
-    requires { ⌜ (sum ≤ tooHigh) × (rate < billion) ⌝ }
-    ensures { λ r. ⌜ r ≡ sumAfter on sum rate ⌝ }
+// One line more: its rate goes to the total of the state that it leaves, and to what goes to the own state where it does.
+pub fn add_line(
+    totals: &mut [u32; MOST_STATES],
+    owns: &mut [u32; MOST_STATES],
+    from: u64,
+    to: u64,
+    rate: u64,
+)
+    requires { ⌜ Carried (now totals) (now owns) × (rate < billion) ⌝ }
+    ensures { λ _. ⌜ now (totals .exit) ≡ rateAdded (now (totals .entry)) from rate ⌝ }
+    ensures own { λ _. ⌜ now (owns .exit) ≡ ownAdded (now (owns .entry)) from to rate ⌝ }
 {
-    tested_sum(kept(on, sum), rate as u32)
+    add_rate(totals, from, rate);
+    if from == to {
+        add_rate(owns, from, rate);
+    }
 }
 
-// x unless the test holds, then 0.
-pub fn unless(test: bool, x: u64) -> u64
-    ensures { λ r. ⌜ r ≡ cond test 0 x ⌝ }
+// What of a state's total goes to other states; too high where the total is.
+fn away(total: u32, own: u32) -> u32
+    requires { ⌜ own ≤ total ⌝ }
+    ensures { λ r. ⌜ r ≡ awayOf total own ⌝ }
 {
-    if test { 0 } else { x }
+    let others = total - own;
+    if MOST_RATE < total { TOO_HIGH } else { others }
 }
 
 // The greater of two numbers.
-fn greater(a: u64, b: u64) -> u64
+fn greater(a: u32, b: u32) -> u32
     ensures { λ r. ⌜ r ≡ max a b ⌝ }
 {
     if a < b { b } else { a }
 }
 
-impl Totals {
-    // Before the first line.
-    pub fn new() -> Totals
-        ensures { λ r. ⌜ r ≡ totalsBegun ⌝ }
-    {
-        Totals {
-            from: 0,
-            sum: 0,
-            away: 0,
-            top: 0,
-            wrong: false,
-        }
+// The greatest that goes from one of the states to others; too high where a total is.
+pub fn top_rate(totals: &[u32; MOST_STATES], owns: &[u32; MOST_STATES], states: usize) -> u32
+    requires { ⌜ Carried (now totals) (now owns) × (states ≤ mostStates) ⌝ }
+    ensures { λ r. ⌜ r ≡ greatest (λ s. awayOf (at (now (totals .entry)) s) (at (now (owns .entry)) s)) states ⌝ }
+{
+    let mut top: u32 = 0;
+    let mut s: usize = 0;
+    while s < states {
+        top = greater(top, away(totals[s], owns[s]));
+        s += 1;
     }
-
-    // One line more.
-    pub fn add(self, from: u64, to: u64, rate: u64) -> Totals
-        requires { ⌜ TotalsFit self × (rate < billion) ⌝ }
-        ensures { λ r. ⌜ r ≡ totalsAdded self from to rate ⌝ }
-    {
-        let on = from == self.from;
-        let sum = sum_after(on, self.sum, rate);
-        let away = sum_after(on, self.away, unless(from == to, rate));
-        Totals {
-            from: from,
-            sum: sum,
-            away: away,
-            top: greater(self.top, away as u64),
-            wrong: self.wrong | (rate == 0) | (MOST_RATE < sum),
-        }
-    }
+    top
 }

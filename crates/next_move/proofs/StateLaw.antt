@@ -33,7 +33,7 @@ module _ {mv l operand : List ℕ} {n s begin end : ℕ} (p : StateAsked mv l op
 
   row-is : (b : Bool) → flow mv (length mv) (heldIn b operand) s + sumTo (pull mv (heldIn b operand)) begin ≡ sumTo (pull mv (heldIn b operand)) end
   unfolding flow
-  row-is b = rw (p .begins, p .ends) (row-sum mv (pull mv (heldIn b operand)) s (length mv) (rates .lines .rising))
+  row-is b = rw (p .begins, p .ends) (row-sum mv (pull mv (heldIn b operand)) s (length mv) (rates .rows))
 
   -- what flows into states that hold is a part of all that flows
   flow-part : (b : Bool) → flow mv (length mv) (heldIn b operand) s ≤ exitOf mv (length mv) s

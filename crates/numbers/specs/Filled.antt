@@ -1,20 +1,30 @@
 -- A list that is filled from a place on: n entries from p on are those of a function, and all else is as it was. Assumes nothing.
 use mathlib.Core.Path.{_≡_, refl, ap, sym, _∙_}
 use mathlib.Core.List.{List, _∷_, [], _++_}
-use mathlib.Core.Bool.{Bool, true, false}
+use mathlib.Core.Bool.{Bool, true, false, cond}
 use Prim.Native.Nat.{ℕ, zero, suc, _+_, _-_, _≤_, _<_}
 use native.Mathlib.Omega.{arith}
 use native.Mathlib.Nat.{zero-add}
-use lib.Dec.{ltb}
+use lib.Dec.{ltb, eqb}
 use lib.ListN.{length, getD, set, drop, replicate, length-set, length-append, length-drop, List·getD-append}
 use lib.Seq.{getD-set-same, getD-set-other, getD-drop, getD-append-add, ext-getD}
 use borrow.Author.Count.{below-more}
-use borrow.Author.Tests.{ltb-true, ltb-false}
+use borrow.Author.Tests.{ltb-true, ltb-false, eqb-true, eqb-false}
 use Rattle.csl.specs.Lent.{column, written}
 
 -- the word at a place of a list, 0 beyond its end
 abbrev pub at : List ℕ → ℕ → ℕ
 at l k = getD l k 0
+
+-- the numbers from p on, once x is added to one of them
+pub added-at : (l : List ℕ) (p s x : ℕ) → p + s < length l → (t : ℕ) → at (set l (p + s) (at l (p + s) + x)) (p + t) ≡ at l (p + t) + cond (eqb s t) x 0
+added-at l p s x h t = go (eqb s t) refl
+  where
+    go : (b : Bool) → eqb s t ≡ b → at (set l (p + s) (at l (p + s) + x)) (p + t) ≡ at l (p + t) + cond b x 0
+    go true e = rw (← eqb-true s t e) (getD-set-same l (p + s) (at l (p + s) + x) 0 h)
+    go false e =
+        let d : s ≡ t → ⊥ = eqb-false s t e in
+        getD-set-other l (p + s) (p + t) (at l (p + s) + x) 0 (omega arith) ∙ omega arith
 
 pub record Filled (f : ℕ → ℕ) (p n : ℕ) (old new : List ℕ) : Type 0 where
   pub same : length new ≡ length old

@@ -48,7 +48,7 @@ module _ {mv l : List ℕ} {n q s begin end : ℕ} (p : StateAsked mv l n q s be
     unfolding mixed flow
     row-is =
         rw (p .all .stays s (p .here) not-held, p .ends, p .begins)
-        (omega (arith, row-sum mv (pull mv (valueAt l n)) s (length mv) (rates .lines .rising)))
+        (omega (arith, row-sum mv (pull mv (valueAt l n)) s (length mv) (rates .rows)))
 
     pub may-row : RowAsked mv l n begin end (at l (5 * n + s) * at l (2 * n + s))
     may-row =

@@ -1,6 +1,6 @@
 -- Laws behind the proofs of `rate_matrix`.
 pub mod WordLaw
-pub mod TallyLaw
-pub mod AsideLaw
-pub mod CloseLaw
+pub mod CountLaw
+pub mod BeginLaw
+pub mod PlaceLaw
 pub mod PrepareLaw

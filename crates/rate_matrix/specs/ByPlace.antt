@@ -1,13 +1,12 @@
--- What holds of a list of moves, place by place: sums, states in range, sources that rise. Assumes nothing.
+-- What holds of a list of moves, place by place: sums, states in range, rates above 0. Assumes nothing.
 use mathlib.Core.Path.{_≡_, refl, ap, sym, _∙_}
-use mathlib.Core.Bool.{Bool, true, false, cond, _&&_, _||_, false≢true, and-eq-true-iff}
+use mathlib.Core.Bool.{cond, _&&_}
 use mathlib.Core.List.{List, [], _∷_}
-use Prim.Native.Nat.{ℕ, zero, suc, _+_, _≤_, _<_}
+use Prim.Native.Nat.{ℕ, zero, suc, _+_, _<_}
 use native.Mathlib.Omega.{arith}
 use lib.ListN.{length, getD}
-use lib.Dec.{ltb, eqb}
-use borrow.Author.Tests.{ltb-true, eqb-true}
-use Rattle.csl.specs.Moves.{Move, isBefore, isRising, rateIn, ratesOut}
+use lib.Dec.{eqb}
+use Rattle.csl.specs.Moves.{Move, rateIn, ratesOut}
 use Rattle.csl.specs.Chain.{sumTo}
 use Rattle.accepted.specs.Rates.{Within, Moving}
 
@@ -50,31 +49,3 @@ unfolding Moving
 moving-place [] w j l = absurd (omega arith)
 moving-place (m ∷ ms) w zero l = w .0
 moving-place (m ∷ ms) w (suc j) l = moving-place ms (w .1) j (omega arith)
-
--- rising moves leave states that do not fall
-before-le : (a b : Move) → isBefore a b ≡ true → a .from ≤ b .from
-before-le a b h = go (ltb (a .from) (b .from)) (eqb (a .from) (b .from)) refl refl h
-  where
-    go : (x y : Bool) → ltb (a .from) (b .from) ≡ x → eqb (a .from) (b .from) ≡ y → (x || y && ltb (a .to) (b .to)) ≡ true → a .from ≤ b .from
-    go true y e f k = omega (arith, ltb-true (a .from) (b .from) e)
-    go false true e f k = omega (arith, eqb-true (a .from) (b .from) f)
-    go false false e f k = absurd (false≢true k)
-
-rising-first : (m : Move) (ms : List Move) → isRising (m ∷ ms) ≡ true → (j : ℕ) → j < length ms → m .from ≤ moveAt ms j .from
-unfolding isRising
-rising-first m [] h j l = absurd (omega arith)
-rising-first m (a ∷ ms) h zero l = before-le m a (and-eq-true-iff (isBefore m a) (isRising (a ∷ ms)) .0 h .0)
-rising-first m (a ∷ ms) h (suc j) l =
-    let p = and-eq-true-iff (isBefore m a) (isRising (a ∷ ms)) .0 h in omega (arith, before-le m a (p .0), rising-first a ms (p .1) j (omega arith))
-
-rising-rest : (m : Move) (ms : List Move) → isRising (m ∷ ms) ≡ true → isRising ms ≡ true
-unfolding isRising
-rising-rest m [] h = refl
-rising-rest m (a ∷ ms) h = and-eq-true-iff (isBefore m a) (isRising (a ∷ ms)) .0 h .1
-
-pub rising-places : (ms : List Move) → isRising ms ≡ true → (i j : ℕ) → i ≤ j → j < length ms → moveAt ms i .from ≤ moveAt ms j .from
-rising-places [] h i j k l = absurd (omega arith)
-rising-places (m ∷ ms) h zero zero k l = omega arith
-rising-places (m ∷ ms) h zero (suc j) k l = rising-first m ms h j (omega arith)
-rising-places (m ∷ ms) h (suc i) zero k l = absurd (omega arith)
-rising-places (m ∷ ms) h (suc i) (suc j) k l = rising-places ms (rising-rest m ms h) i j (omega arith) (omega arith)

@@ -2,10 +2,11 @@
 pub mod Packed
 pub mod Halves
 pub mod Keys
+pub mod Sorting
 pub mod Words
 pub mod Lines
 pub mod Sorted
-pub mod Away
+pub mod Laid
 pub mod Asked
 pub mod Shown
 pub mod ByPlace

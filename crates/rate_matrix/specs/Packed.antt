@@ -39,9 +39,12 @@ module _ (from to rate : ℕ) (f : from < mostStates) (t : to < mostStates) wher
 abbrev pub wordStates : ℕ → ℕ
 wordStates word = word % (mostStates * mostStates)
 
--- the rate of a word that goes to its own state, and the word without that rate
+-- its rate if it goes to its own state, its rate if it goes to another, and the word without the first
 unfoldable pub wordOwn : ℕ → ℕ
 wordOwn word = cond (eqb (wordFrom word) (wordTo word)) (wordRate word) 0
+
+unfoldable pub wordOther : ℕ → ℕ
+wordOther word = cond (eqb (wordFrom word) (wordTo word)) 0 (wordRate word)
 
 unfoldable pub wordAway : ℕ → ℕ
 wordAway word = cond (eqb (wordFrom word) (wordTo word)) (wordStates word) word
@@ -64,8 +67,8 @@ module _ (word : ℕ) where
       go true = omega arith
       go false = refl
 
-  pub rate-away : wordRate (wordAway word) ≡ cond (eqb (wordFrom word) (wordTo word)) 0 (wordRate word)
-  unfolding wordAway
+  pub rate-away : wordRate (wordAway word) ≡ wordOther word
+  unfolding wordAway wordOther
   rate-away = go (eqb (wordFrom word) (wordTo word))
     where
       go : (t : Bool) → wordRate (cond t (word % (mostStates * mostStates)) word) ≡ cond t 0 (wordRate word)

@@ -2,13 +2,11 @@
 -- where each state's row ends. Assumes nothing.
 use mathlib.Core.Bool.{cond}
 use mathlib.Core.List.{List}
-use Prim.Native.Nat.{ℕ, suc, _+_, _*_, _≤_, _<_}
-use lib.ListN.{length}
+use Prim.Native.Nat.{ℕ, _*_, _≤_, _<_}
 use lib.Dec.{eqb, ltb}
 use Rattle.rate_matrix.specs.Packed.{wordFrom, wordTo, wordRate}
 use Rattle.csl.specs.Limits.{mostStates, mostMoves, mostRate}
 use Rattle.csl.specs.Chain.{sumTo, greatest}
-use Rattle.numbers.specs.Filled.{Twin}
 pub use Rattle.numbers.specs.Filled.{at}
 
 -- the three numbers of word j
@@ -53,15 +51,14 @@ flow mv m v s = sumTo (outOf mv s (pull mv v)) m
 unfoldable pub rowOf : List ℕ → ℕ → ℕ → ℕ
 rowOf mv m s = sumTo (beforeOf mv s (λ j. 1)) m
 
--- what is asked of the words: they name states below n, and rise by the state that they leave; no state is left faster than the limit
+-- what is asked of the words, in whatever order they stand: they name states below n, and no state is left faster than the limit
 pub record Lines (mv : List ℕ) (m n : ℕ) : Type 0 where
   pub states : n ≤ mostStates
   pub few : m ≤ mostMoves
   pub sources : (j : ℕ) → j < m → fromOf mv j < n
   pub targets : (j : ℕ) → j < m → toOf mv j < n
-  pub rising : (i j : ℕ) → i ≤ j → j < m → fromOf mv i ≤ fromOf mv j
   pub limit : (s : ℕ) → s < n → exitOf mv m s ≤ mostRate
 
--- The exit rates of n states from a place on, then the ends of their rows, of the words of a list; all else is as it was.
-abbrev pub Rows : (mv : List ℕ) (p n : ℕ) → (old new : List ℕ) → Type 0
-Rows mv p n old new = Twin (exitOf mv (length mv)) (λ s. rowOf mv (length mv) (suc s)) p (p + n) n old new
+-- they stand in rows by the state that they leave
+abbrev pub InRows : List ℕ → ℕ → Type 0
+InRows mv m = (i j : ℕ) → i ≤ j → j < m → fromOf mv i ≤ fromOf mv j

@@ -2,7 +2,7 @@
 ghost use mathlib.Core.Path.{_≡_};
 ghost use Prim.Native.Nat.{_<_};
 ghost use Rattle.csl.specs.Limits.{mostStates};
-ghost use Rattle.rate_matrix.specs.Packed.{packed, wordFrom, wordTo, wordRate, wordStates};
+ghost use Rattle.rate_matrix.specs.Packed.{packed, wordFrom, wordTo, wordRate, wordAway};
 
 // So many states a digit of a word can name.
 const STATES: u64 = limits::MOST_STATES as u64;
@@ -38,9 +38,12 @@ pub fn rate_of(word: u64) -> u64
     word / (STATES * STATES)
 }
 
-// The packed move without its rate.
-pub fn without_rate(word: u64) -> u64
-    ensures { λ r. ⌜ r ≡ wordStates word ⌝ }
+// The packed move, without its rate if it goes to its own state.
+pub fn away(word: u64) -> u64
+    ensures { λ r. ⌜ r ≡ wordAway word ⌝ }
 {
-    word % (STATES * STATES)
+    if from_of(word) == to_of(word) {
+        return word % (STATES * STATES);
+    }
+    word
 }

@@ -1,7 +1,7 @@
 -- Tests 2 to 9, in their order, by the facts of the two texts. Assumes nothing.
 use mathlib.Core.Path.{_≡_, refl, sym, ap, _∙_}
 use Prim.Native.Nat.{_≤_, _<_}
-use mathlib.Core.Bool.{Bool, true, false, cond, not, _&&_, _||_, true≢false, and-eq-true-iff}
+use mathlib.Core.Bool.{Bool, true, false, cond, not, _&&_, _||_, Bool·not-not, and-eq-true-iff}
 use mathlib.Core.Option.{none, some}
 use lib.ListN.{length}
 use lib.Dec.{ltb, eqb}
@@ -10,8 +10,9 @@ use Rattle.csl.specs.Text.{Text}
 use Rattle.csl.specs.Limits.{mostStates, mostMoves}
 use Rattle.csl.specs.Line.{lineFeed, laterLines}
 use Rattle.csl.specs.Labels.{labelsHead, labelsLayout, inTurn, statesOf, namesOf}
-use Rattle.csl.specs.Moves.{movesHead, movesLayout, movesOf, isRising}
-use Rattle.csl.specs.Refusal.{brokenLayout, wrongFirstLine, wrongStates, manyMoves, strangeState, notRising, wrongRate, sheetTests, firstOf}
+use Rattle.csl.specs.Moves.{movesHead, movesLayout, movesOf}
+use Rattle.csl.specs.Refusal.{brokenLayout, wrongFirstLine, wrongStates, manyMoves, strangeState, wrongRate, sheetTests, firstOf}
+use Rattle.accepted.specs.Order.{neither}
 use Rattle.texts.specs.Span.{spanOf}
 use Rattle.moves.specs.Facts as m
 use Rattle.moves.specs.declared.facts.MovesFacts.{MovesFacts}
@@ -69,7 +70,7 @@ module _ {moves labels : Text} {a : MovesFacts} {b : LabelsFacts} (k : Facts mov
     unfolding m.movesFacts
     moves-right = k .of-moves ∙ rw (both-right .0, labels-right)
 
-    -- 3 to 8, and 9 where the moves rise
+    -- 3 to 6, and 9 where 4 and 6 do not hold
     first-lines-told : not (a .head && b .head) ≡ wrongFirstLine moves labels
     unfolding wrongFirstLine
     first-lines-told = rw (moves-right, labels-right)
@@ -85,17 +86,12 @@ module _ {moves labels : Text} {a : MovesFacts} {b : LabelsFacts} (k : Facts mov
     strange-told : a .strange ≡ strangeState (statesOf labels) (movesOf moves)
     strange-told = rw moves-right
 
-    rising-told : not (a .rising) ≡ notRising (movesOf moves)
-    unfolding notRising
-    rising-told = rw moves-right
-
-    rates-told : not (a .rising) ≡ false → not (a .rates) ≡ wrongRate (movesOf moves)
-    rates-told h = rw moves-right (go (isRising (movesOf moves)) _ (rw moves-right at h))
-      where
-        go : (r w : Bool) → not r ≡ false → not (r && not w) ≡ w
-        go true true e = refl
-        go true false e = refl
-        go false w e = absurd (true≢false e)
+    rates-told : (eqb (b .states) 0 || ltb mostStates (b .states) || not (b .turn)) ≡ false → a .strange ≡ false
+        → not (a .rates) ≡ wrongRate (movesOf moves)
+    rates-told h4 h6 =
+        let few : ltb mostStates (statesOf labels) ≡ false
+        = rw labels-right at (neither (eqb (b .states) 0) _ (neither _ (not (b .turn)) h4 .0) .1) in
+        rw moves-right (rw (few, sym strange-told ∙ h6) (Bool·not-not (wrongRate (movesOf moves))))
 
 -- each answer, by the conditions before it
 module _ (a : MovesFacts) (b : LabelsFacts) where
@@ -120,7 +116,7 @@ module _ (a : MovesFacts) (b : LabelsFacts) where
         -- 5 and on
         pub firstFrom5 : (moves labels : Text) → Facts moves labels a b
             → afterLengths moves labels
-            ≡ cond (ltb mostMoves (a .count)) (some 5) (cond (a .strange) (some 6) (cond (not (a .rising)) (some 8) (cond (wrongRate (movesOf moves)) (some 9) none)))
+            ≡ cond (ltb mostMoves (a .count)) (some 5) (cond (a .strange) (some 6) (cond (wrongRate (movesOf moves)) (some 9) none))
         unfolding sheetTests firstOf
         firstFrom5 moves labels k =
             rw (
@@ -129,7 +125,6 @@ module _ (a : MovesFacts) (b : LabelsFacts) where
               sym (states-told k h2) ∙ h4,
               sym (count-told k h2),
               sym (strange-told k h2),
-              sym (rising-told k h2),
             )
 
         pub at-5 : mostMoves < a .count → Answered (Refused 5)
@@ -140,14 +135,10 @@ module _ (a : MovesFacts) (b : LabelsFacts) where
           at-6 h moves labels k = rw (firstFrom5 moves labels k, le-ltb mostMoves (a .count) h5, h)
 
           module _ (h6 : a .strange ≡ false) where
-            pub at-8 : not (a .rising) ≡ true → Answered (Refused 8)
-            at-8 h moves labels k = rw (firstFrom5 moves labels k, le-ltb mostMoves (a .count) h5, h6, h)
+            pub at-9 : not (a .rates) ≡ true → Answered (Refused 9)
+            at-9 h moves labels k =
+                rw (firstFrom5 moves labels k, le-ltb mostMoves (a .count) h5, h6, sym (rates-told k h2 h4 h6) ∙ h)
 
-            module _ (h8 : not (a .rising) ≡ false) where
-              pub at-9 : not (a .rates) ≡ true → Answered (Refused 9)
-              at-9 h moves labels k =
-                  rw (firstFrom5 moves labels k, le-ltb mostMoves (a .count) h5, h6, h8, sym (rates-told k h2 h8) ∙ h)
-
-              pub at-end : not (a .rates) ≡ false → Answered Passed
-              at-end h moves labels k =
-                  rw (firstFrom5 moves labels k, le-ltb mostMoves (a .count) h5, h6, h8, sym (rates-told k h2 h8) ∙ h)
+            pub at-end : not (a .rates) ≡ false → Answered Passed
+            at-end h moves labels k =
+                rw (firstFrom5 moves labels k, le-ltb mostMoves (a .count) h5, h6, sym (rates-told k h2 h4 h6) ∙ h)

@@ -4,9 +4,9 @@ use Prim.Native.Nat.{ℕ, _≤_}
 use mathlib.Core.Bool.{Bool, true, false, _||_}
 use mathlib.Core.Option.{Option, none}
 use lib.Dec.{ltb, eqb}
-use borrow.Author.Tests.{ltb-false}
+use borrow.Author.Tests.{le-ltb, ltb-false}
 use Rattle.csl.specs.Text.{Text}
-use Rattle.csl.specs.Limits.{sheetBytes}
+use Rattle.csl.specs.Limits.{mostStates, sheetBytes}
 use Rattle.csl.specs.Moves.{movesOf, movesHead}
 use Rattle.csl.specs.Sheet.{sheetOf}
 use Rattle.csl.specs.Refusal.{outOfBytes, sheetTests, firstOf}
@@ -71,7 +71,7 @@ module _ (moves labels : Text) where
           moves-right = of-moves ∙ rw (k .moves-layout, labels-right)
 
           q-right : a .top ≡ dimensionsOf moves labels .q
-          q-right = rw moves-right (rw (k .known-states, k .sound .rising, k .good-rates) (top-is (sheetOf moves labels) (k .sound)))
+          q-right = rw moves-right (rw (k .known-states, le-ltb mostStates (sheetOf moves labels .states) (k .sound .few-states), k .good-rates) (top-is (sheetOf moves labels) (k .sound)))
 
           pub sheet-passes : record {
             tested = Passed;

@@ -42,7 +42,7 @@ pub fn out_of_bytes(text: &[u8], most: usize) -> bool
     (text.len() == 0) | (most < text.len())
 }
 
-// Tests 2 to 9, from the facts of the two texts. 7 "is never given again".
+// Tests 2 to 9, from the facts of the two texts. 7 and 8 are "never given again".
 fn judge(m: MovesFacts, l: LabelsFacts) -> Tested
     ensures { λ r. ⌜ ((moves labels : Text) → Facts moves labels m l → r ≡ testedBy (afterLengths moves labels)) ⌝ }
 {
@@ -60,9 +60,6 @@ fn judge(m: MovesFacts, l: LabelsFacts) -> Tested
     }
     if m.strange {
         return Tested::Refused(6);
-    }
-    if !m.rising {
-        return Tested::Refused(8);
     }
     if !m.rates {
         return Tested::Refused(9);

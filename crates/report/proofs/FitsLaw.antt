@@ -11,12 +11,13 @@ use Rattle.csl.specs.Text.{Text, bytes}
 use Rattle.csl.specs.Line.{lineFeed}
 use Rattle.csl.specs.Report.{decimal, refusalText}
 use Rattle.csl.specs.Finished.{acceptedWith}
-use Rattle.report.specs.Place.{writtenAt, Room, Wrote}
-use Rattle.report.proofs.WritingLaw.{wrote-more}
+use Rattle.decimals.specs.Place.{writtenAt, Room, Wrote}
+use Rattle.decimals.specs.Writing.{wrote-more}
 use Rattle.report.specs.declared.Rendered.the-variants as rendered
 use Rattle.report.specs.declared.listings.Listing.the-variants.{ByNumber, WorstFirst}
 use Rattle.report.specs.Listing.{listings, listing, areStates, hasAll, Complete}
 use Rattle.report.specs.Rendering.{fits, Rendering}
+use Rattle.report.specs.Refused.{refusal-length}
 
 -- it does not, it does
 pub short : {fit : Bool} (text : Text) (old : List ℕ) → fit ≡ false → Rendering fit text old old rendered.Short
@@ -28,27 +29,36 @@ unfolding writtenAt
 shown {text = text} e w = rw e (record { answer = ap (λ (n : ℕ). rendered.Text n) (w .after ∙ omega arith); buffer = w .holds })
 
 -- a refusal
-pub refusal-length : (n : ℕ) → length (refusalText n) ≡ length (decimal n) + 9
-unfolding refusalText
-refusal-length n = simp length-append (omega arith)
-
 pub refusal-short : (n : ℕ) (old : List ℕ) → length old < length (decimal n) + 9
     → Rendering (leb (length (refusalText n)) (length old)) (refusalText n) old old rendered.Short
 refusal-short n old h = short _ old (lt-leb (length (refusalText n)) (length old) (omega (arith, refusal-length n)))
 
-pub refusal-wrote : (n : ℕ) {a b r : ℕ} {old o₁ o₂ new : List ℕ} → Room 0 (refusalText n) old
-    → Wrote 0 (bytes "refused\n") old o₁ a → Wrote a (decimal n) o₁ o₂ b → Wrote b (lineFeed ∷ []) o₂ new r
-    → Wrote 0 (refusalText n) old new r
-unfolding refusalText
-refusal-wrote n room w₁ w₂ w₃ =
-    wrote-more (simp length-append (omega (arith, refusal-length n))) (wrote-more (omega (arith, refusal-length n)) w₁ w₂) w₃
+pub refusal-room : (n : ℕ) {k : ℕ} (old : List ℕ) → k ≡ length (decimal n) → k + 9 ≤ length old → Room 0 (refusalText n) old
+refusal-room n old e h = omega (arith, refusal-length n)
 
-pub refusal-shown : (n : ℕ) {k a b r : ℕ} {old o₁ o₂ new : List ℕ} → k ≡ length (decimal n) → k + 9 ≤ length old
-    → Wrote 0 (bytes "refused\n") old o₁ a → Wrote a (decimal n) o₁ o₂ b → Wrote b (lineFeed ∷ []) o₂ new r
+pub refusal-shown : (n : ℕ) {k r : ℕ} {old new : List ℕ} → k ≡ length (decimal n) → k + 9 ≤ length old → Wrote 0 (refusalText n) old new r
     → Rendering (leb (length (refusalText n)) (length old)) (refusalText n) old new (rendered.Text r)
-refusal-shown n {old = old} e h w₁ w₂ w₃ =
-    let q : length (refusalText n) ≤ length old = omega (arith, refusal-length n) in
-    shown (le-leb (length (refusalText n)) (length old) q) (refusal-wrote n (omega arith) w₁ w₂ w₃)
+refusal-shown n {old = old} e h w = shown (le-leb (length (refusalText n)) (length old) (omega (arith, refusal-length n))) w
+
+-- its three parts, one behind the other
+module _ (n : ℕ) (old : List ℕ) (room : Room 0 (refusalText n) old) where
+  pub word-room : Room 0 (bytes "refused\n") old
+  word-room = omega (arith, refusal-length n)
+
+  module _ {a : ℕ} {o₁ : List ℕ} (w₁ : Wrote 0 (bytes "refused\n") old o₁ a) (e : length o₁ ≡ length old) where
+    pub number-room : Room a (decimal n) o₁
+    number-room = omega (arith, refusal-length n)
+
+    module _ {b : ℕ} {o₂ : List ℕ} (w₂ : Wrote a (decimal n) o₁ o₂ b) where
+      pub end-room : length o₂ ≡ length o₁ → Room b (lineFeed ∷ []) o₂
+      end-room f = omega (arith, refusal-length n)
+
+      pub refusal-wrote : {r : ℕ} {new : List ℕ} → Wrote b (lineFeed ∷ []) o₂ new r → Wrote 0 (refusalText n) old new r
+      unfolding refusalText
+      refusal-wrote w₃ =
+          wrote-more (simp length-append (omega (arith, refusal-length n))) (wrote-more (omega (arith, refusal-length n)) w₁ w₂) w₃
+
+pub ruleset refusal-laws = (word-room, number-room, end-room, refusal-wrote)
 
 -- five tests that hold
 all-true : (a b c d e : Bool) → (a && b && c && d && e) ≡ true → (a ≡ true) × (b ≡ true) × (c ≡ true) × (d ≡ true) × (e ≡ true)

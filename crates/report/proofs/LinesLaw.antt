@@ -1,11 +1,10 @@
 -- The lines of a listing's states, one behind the other. Assumes nothing.
-use mathlib.Core.Path.{_≡_, refl, ap, _∙_}
+use mathlib.Core.Path.{_≡_, refl, ap}
 use mathlib.Core.List.{List, [], _∷_, _++_, append-assoc, append-nil}
-use mathlib.Core.Logic.{⊎-elim}
-use Prim.Native.Nat.{ℕ, zero, suc, _+_, _-_, _≤_, _<_}
+use Prim.Native.Nat.{ℕ, _+_, _-_, _≤_, _<_}
 use native.Mathlib.Omega.{arith}
 use native.Mathlib.Numerals.{add-one}
-use native.Mathlib.Nat.{le-refl, le-suc-iff}
+use native.Mathlib.Nat.{le-refl}
 use lib.ListN.{length, length-append}
 use lib.Seq.{take-suc}
 use Rattle.csl.specs.Text.{Text, bytes}
@@ -14,9 +13,10 @@ use Rattle.csl.specs.Order.{byNumber}
 use Rattle.csl.specs.Report.{rowText, rowsText, listingText}
 use Rattle.report.specs.declared.listings.Listing.{Listing}
 use Rattle.report.specs.declared.listings.Listing.the-variants.{ByNumber, WorstFirst}
-use Rattle.report.specs.Place.{Room, Wrote}
+use Rattle.decimals.specs.Place.{Room, Wrote}
 use Rattle.report.specs.Listing.{entry, verdictIn, listed, stateAt, rows, listing}
-use Rattle.report.proofs.WritingLaw.{wrote-none, wrote-more}
+use Rattle.decimals.specs.Writing.{wrote-none, wrote-more}
+use Rattle.decimals.specs.Growing.{length-next, length-among, part-room, part-wrote}
 
 -- the lines of one state more
 rows-snoc : (l : List ℕ) (s : ℕ) (lower upper : ℕ → ℕ) (d : ℕ) (v : ℕ → Verdict)
@@ -37,36 +37,27 @@ listed-next ByNumber i o h = rw (add-one i) refl
 listed-next WorstFirst i o h = rw (add-one i) (take-suc o i 0 h)
 
 module _ (w : Listing) (d : ℕ) (l u b o : List ℕ) where
-  -- the line of state s, where v is its verdict
+  -- the line of state s, where v is its verdict; the lines of the first i states of the listing, and the line of the one at place i
   abbrev line : ℕ → Verdict → Text
   line s v = rowText s (entry l s) (entry u s) d v
 
+  abbrev first : ℕ → Text
+  first i = rows w i d l u b o
+
+  abbrev behind : ℕ → Text
+  behind i = line (stateAt w i o) (verdictIn b (stateAt w i o))
+
+  line-is : (i s : ℕ) (v : Verdict) → s ≡ stateAt w i o → v ≡ verdictIn b s → line s v ≡ behind i
+  line-is i s v e q = rw (q, e) refl
+
   -- the lines of no state, and of one more
-  rows-none : rows w 0 d l u b o ≡ []
+  rows-none : first 0 ≡ []
   unfolding rows rowsText
   rows-none = rw (listed-none w o) refl
 
-  rows-next : (i s : ℕ) (v : Verdict) → i < length o → s ≡ stateAt w i o → v ≡ verdictIn b s
-      → rows w (i + 1) d l u b o ≡ rows w i d l u b o ++ line s v
+  rows-next : (n : ℕ) → n ≤ length o → (i : ℕ) → i < n → first (i + 1) ≡ first i ++ behind i
   unfolding rows
-  rows-next i s v h e q = rw (q, e, listed-next w i o h) (rows-snoc (listed w i o) (stateAt w i o) (entry l) (entry u) d (verdictIn b))
-
-  rows-length : (i s : ℕ) (v : Verdict) → i < length o → s ≡ stateAt w i o → v ≡ verdictIn b s
-      → length (rows w (i + 1) d l u b o) ≡ length (rows w i d l u b o) + length (line s v)
-  rows-length i s v h e q = ap length (rows-next i s v h e q) ∙ length-append (rows w i d l u b o) (line s v)
-
-  -- more states, no fewer bytes
-  rows-mono : (i n : ℕ) → i ≤ n → n ≤ length o → length (rows w i d l u b o) ≤ length (rows w n d l u b o)
-  rows-mono i zero h k = let e : i ≡ 0 = omega arith in rw e (le-refl _)
-  rows-mono i (suc n) h k =
-      let more = rows-length n _ _ (omega arith) refl refl in
-      ⊎-elim (λ j. omega (arith, rows-mono i n j (omega arith), ap (λ (m : ℕ). length (rows w m d l u b o)) (add-one n), more)) (λ e. rw e (le-refl _))
-      (le-suc-iff .0 h)
-
-  -- the lines so far and the next one are among all lines
-  rows-among : (i n s : ℕ) (v : Verdict) → i < n → n ≤ length o → s ≡ stateAt w i o → v ≡ verdictIn b s
-      → length (rows w i d l u b o) + length (line s v) ≤ length (rows w n d l u b o)
-  rows-among i n s v h k e q = omega (arith, rows-length i s v (omega arith) e q, rows-mono (i + 1) n (omega arith) k)
+  rows-next n k i h = rw (listed-next w i o (omega arith)) (rows-snoc (listed w i o) (stateAt w i o) (entry l) (entry u) d (verdictIn b))
 
   -- with the line of names
   pub listing-length : (n : ℕ) → length (listing w n d l u b o) ≡ 32 + length (rows w n d l u b o)
@@ -78,12 +69,12 @@ module _ (w : Listing) (d : ℕ) (l u b o : List ℕ) where
   fit-none room = omega (arith, ap length rows-none)
 
   pub fit-more : (i s : ℕ) (v : Verdict) {left room k : ℕ} → i < length o → s ≡ stateAt w i o → v ≡ verdictIn b s → k ≡ length (line s v)
-      → left + length (rows w i d l u b o) ≡ room → k ≤ left → left - k + length (rows w (i + 1) d l u b o) ≡ room
-  fit-more i s v h e q p r j = omega (arith, rows-length i s v h e q)
+      → left + length (first i) ≡ room → k ≤ left → left - k + length (first (i + 1)) ≡ room
+  fit-more i s v h e q p r j = omega (arith, length-next first behind (length o) (rows-next _ (le-refl _)) i h, ap length (line-is i s v e q))
 
   pub fit-no : (i n s : ℕ) (v : Verdict) {left room k : ℕ} → i < n → n ≤ length o → s ≡ stateAt w i o → v ≡ verdictIn b s → k ≡ length (line s v)
-      → left + length (rows w i d l u b o) ≡ room - 32 → left < k → 32 ≤ room → room < length (listing w n d l u b o)
-  fit-no i n s v h k e q p r j x = omega (arith, rows-among i n s v h k e q, listing-length n)
+      → left + length (first i) ≡ room - 32 → left < k → 32 ≤ room → room < length (listing w n d l u b o)
+  fit-no i n s v h k e q p r j x = omega (arith, length-among first behind n (rows-next n k) i h, ap length (line-is i s v e q), listing-length n)
 
   pub fit-yes : (i n left room : ℕ) → left + length (rows w i d l u b o) ≡ room - 32 → i ≤ n → n ≤ i → 32 ≤ room
       → left + length (listing w n d l u b o) ≡ room
@@ -94,14 +85,13 @@ module _ (w : Listing) (d : ℕ) (l u b o : List ℕ) where
   lines-none at old = rw rows-none (wrote-none at old)
 
   pub lines-room : (i n s : ℕ) (v : Verdict) {at m : ℕ} {old mid : List ℕ} → i < n → n ≤ length o → s ≡ stateAt w i o → v ≡ verdictIn b s
-      → Room at (rows w n d l u b o) old → Wrote at (rows w i d l u b o) old mid m → length mid ≡ length old → Room m (line s v) mid
-  lines-room i n s v h k e q room x p = omega (arith, rows-among i n s v h k e q)
+      → Room at (first n) old → Wrote at (first i) old mid m → length mid ≡ length old → Room m (line s v) mid
+  lines-room i n s v h k e q room x p = rw (line-is i s v e q) (part-room first behind n (rows-next n k) i h room x p)
 
   pub lines-more : (i n s : ℕ) (v : Verdict) {at m r : ℕ} {old mid new : List ℕ} → i < n → n ≤ length o → s ≡ stateAt w i o → v ≡ verdictIn b s
-      → Room at (rows w n d l u b o) old → Wrote at (rows w i d l u b o) old mid m → Wrote m (line s v) mid new r
-      → Wrote at (rows w (i + 1) d l u b o) old new r
+      → Room at (first n) old → Wrote at (first i) old mid m → Wrote m (line s v) mid new r → Wrote at (first (i + 1)) old new r
   lines-more i n s v h k e q room x y =
-      rw (rows-next i s v (omega arith) e q) (wrote-more (omega (arith, rows-mono i n (omega arith) k)) x y)
+      part-wrote first behind n (rows-next n k) i h room x (rw (line-is i s v e q) at y)
 
   pub lines-all : (i n : ℕ) {at r : ℕ} {old new : List ℕ} → i ≤ n → n ≤ i → Wrote at (rows w i d l u b o) old new r
       → Wrote at (rows w n d l u b o) old new r

@@ -7,8 +7,8 @@ use lib.ListN.{length, length-append}
 use Rattle.csl.specs.Line.{comma, lineFeed}
 use Rattle.csl.specs.Verdicts.{Verdict}
 use Rattle.csl.specs.Report.{decimal, verdictWord, rowText}
-use Rattle.report.specs.Place.{Room, Wrote}
-use Rattle.report.proofs.WritingLaw.{wrote-length, wrote-more}
+use Rattle.decimals.specs.Place.{Room, Wrote}
+use Rattle.decimals.specs.Writing.{wrote-length, wrote-more}
 
 module _ (s l u d : ℕ) (v : Verdict) where
   -- how many bytes each part takes
@@ -67,8 +67,3 @@ module _ (s l u d : ℕ) (v : Verdict) where
                   (wrote-more (omega (arith, row-length)) w₁ w₂) w₃) w₄) w₅) w₆
 
 pub ruleset row-laws = (room-state, room-lower, room-upper, room-depth, room-verdict, room-end, row-wrote)
-
--- a comma and a number
-pub field-wrote : (n : ℕ) {at a r : ℕ} {old mid new : List ℕ} → Room at (comma ∷ decimal n) old
-    → Wrote at (comma ∷ []) old mid a → Wrote a (decimal n) mid new r → Wrote at (comma ∷ decimal n) old new r
-field-wrote n room w v = wrote-more (omega arith) w v

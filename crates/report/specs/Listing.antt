@@ -2,7 +2,7 @@
 use mathlib.Core.Path.{_≡_}
 use mathlib.Core.Bool.{Bool, true, _&&_}
 use mathlib.Core.List.{List, _++_}
-use Prim.Native.Nat.{ℕ, _≤_}
+use Prim.Native.Nat.{ℕ, _+_, _≤_, _<_}
 use lib.ListN.{length, take, getD}
 use lib.Dec.{leb, ltb}
 use Rattle.csl.specs.Text.{Text, every}
@@ -13,6 +13,8 @@ use Rattle.csl.specs.Finished.{Answer, refusedWith, acceptedWith}
 use Rattle.verdicts.specs.Byte.{verdictAt}
 use Rattle.report.specs.declared.listings.Listing.{Listing}
 use Rattle.report.specs.declared.listings.Listing.the-variants.{ByNumber, WorstFirst}
+use Rattle.report.specs.declared.listings.Remainder.{Remainder}
+use Rattle.report.specs.declared.listings.Remainder.the-variants.{Bytes, Short}
 
 -- the number, and the verdict, of a state; a byte over 2 counts as undecided
 abbrev pub entry : List ℕ → ℕ → ℕ
@@ -59,3 +61,8 @@ pub record Complete (n : ℕ) (lower upper verdicts order : List ℕ) : Type 0 w
   pub bytes : n ≤ length verdicts
   pub places : n ≤ length order
   pub states : areStates n order ≡ true
+
+-- what the text leaves of a room
+abbrev pub Leaves : Text → ℕ → Remainder → Type 0
+Leaves text room (Bytes left) = left + length text ≡ room
+Leaves text room Short = room < length text

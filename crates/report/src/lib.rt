@@ -1,24 +1,23 @@
 // The text that a program prints for the answer to a job.
-mod bytes;
 mod complete;
 mod listings;
-mod number;
 mod order;
 mod row;
 
-use bytes::write_byte;
-use bytes::write_bytes;
 use complete::has_all;
+use decimals::decimal_length;
+use decimals::write_byte;
+use decimals::write_bytes;
+use decimals::write_decimal;
 use listings::listings_fit;
 use listings::write_listings;
-use number::decimal_length;
-use number::write_decimal;
 use verdicts::Answer;
 ghost use lib.ListN.{length};
 ghost use lib.Dec.{leb};
 ghost use Rattle.csl.specs.Report.{refusalText};
 ghost use Rattle.csl.specs.Finished.{acceptedWith};
 ghost use Rattle.verdicts.specs.Paper.{answerOf};
+ghost use Rattle.decimals.specs.Place.{Room, Wrote};
 ghost use Rattle.report.specs.Rendering.{Rendering, Printed};
 
 // What rendering comes to.
@@ -59,9 +58,17 @@ fn render_refusal(out: &mut [u8], number: u64) -> Rendered
     if out.len() < decimal_length(number) + 9 {
         return Rendered::Short;
     }
+    Rendered::Text(write_refusal(out, number))
+}
+
+// Writes the text of a refusal to the front of a buffer that has room for it.
+pub fn write_refusal(out: &mut [u8], number: u64) -> usize
+    requires { ⌜ Room 0 (refusalText number) (now out) ⌝ }
+    ensures { λ r. ⌜ Wrote 0 (refusalText number) (now (out .entry)) (now (out .exit)) r ⌝ }
+{
     let digits = write_bytes(out, 0, b"refused\n");
     let end = write_decimal(out, digits, number);
-    Rendered::Text(write_byte(out, end, b'\n'))
+    write_byte(out, end, b'\n')
 }
 
 // The text of a report.

@@ -1,16 +1,16 @@
 // The two listings of a report.
-use crate::bytes::write_bytes;
 use crate::order::index;
 use crate::row::row_length;
 use crate::row::write_row;
+use decimals::write_bytes;
 use verdicts::Verdict;
 ghost use mathlib.Core.Path.{_≡_};
 ghost use Prim.Native.Nat.{_<_};
 ghost use lib.ListN.{length};
 ghost use lib.Dec.{leb};
 ghost use Rattle.csl.specs.Finished.{acceptedWith};
-ghost use Rattle.report.specs.Place.{Room, Wrote, Leaves};
-ghost use Rattle.report.specs.Listing.{Complete, stateAt, listings, rows, listing};
+ghost use Rattle.decimals.specs.Place.{Room, Wrote};
+ghost use Rattle.report.specs.Listing.{Complete, stateAt, listings, rows, listing, Leaves};
 
 // Which of the two: the states by their numbers, or as they stand in the order.
 enum Listing {

@@ -1,17 +1,18 @@
 // The line of a state.
-use crate::bytes::write_byte;
-use crate::bytes::write_bytes;
-use crate::number::decimal_length;
-use crate::number::write_decimal;
+use decimals::decimal_length;
+use decimals::write_byte;
+use decimals::write_bytes;
+use decimals::write_decimal;
+use decimals::write_field;
 use verdicts::Verdict;
 ghost use mathlib.Core.Path.{_≡_};
 ghost use mathlib.Core.List.{_∷_};
 ghost use Prim.Native.Nat.{_≤_};
 ghost use lib.ListN.{length};
 ghost use Rattle.csl.specs.Line.{comma};
-ghost use Rattle.csl.specs.Report.{decimal, verdictWord, rowText};
+ghost use Rattle.csl.specs.Report.{verdictWord, rowText};
 ghost use Rattle.verdicts.specs.Paper.{verdictOf};
-ghost use Rattle.report.specs.Place.{Room, Wrote};
+ghost use Rattle.decimals.specs.Place.{Room, Wrote};
 
 // How many bytes a comma and a verdict's word are.
 fn word_length(verdict: Verdict) -> usize
@@ -34,15 +35,6 @@ pub fn row_length(state: usize, lower: u32, upper: u32, depth: u64, verdict: Ver
     let third = decimal_length(upper as u64);
     let fourth = decimal_length(depth);
     first + second + third + fourth + word_length(verdict) + 4
-}
-
-// A comma and a number.
-fn write_field(out: &mut [u8], at: usize, number: u64) -> usize
-    requires { ⌜ Room at (comma ∷ decimal number) (now out) ⌝ }
-    ensures { λ r. ⌜ Wrote at (comma ∷ decimal number) (now (out .entry)) (now (out .exit)) r ⌝ }
-{
-    let digits = write_byte(out, at, b',');
-    write_decimal(out, digits, number)
 }
 
 // A comma and a verdict's word.

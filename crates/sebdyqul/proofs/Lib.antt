@@ -1,2 +1,3 @@
--- Laws behind the library's function.
+-- Laws behind the library's functions.
 mod CalledLaw
+mod CopyLaw

@@ -1,7 +1,8 @@
 // The checker for programs in C, Rust and other languages: what `library/sebdyqul.h` declares.
+use clean_copy::CopyAnswer;
 use verdicts::Answer;
 ghost use Rattle.checker.specs.Job.{job, buffers};
-ghost use Rattle.sebdyqul.specs.Called.{Called};
+ghost use Rattle.sebdyqul.specs.Called.{Called, CopyCalled};
 
 // Checks a job. An accepted job answers 0 and stores its depth; a refused one answers its number, and then neither the depth nor a buffer
 // has changed.
@@ -49,5 +50,28 @@ pub extern "C" fn sebdyqul_check(
             0
         }
         Answer::Refused(number) => number,
+    }
+}
+
+// Makes the clean copy of a moves text. An accepted one answers 0 and stores the copy's length; a refused one answers its number, and then
+// neither the length nor a byte of the buffer has changed.
+//
+// All is determined, for all texts and lengths: the answer, the length, and every byte of the buffer.
+#[no_mangle]
+pub extern "C" fn sebdyqul_copy(
+    moves: &[u8],
+    labels: &[u8],
+    copy: &mut [u8],
+    length: &mut u64,
+) -> u64
+    ensures { λ r. ⌜ CopyCalled (now (moves .entry)) (now (labels .entry)) (now (copy .entry))
+        (now (length .entry)) r (now (length .exit)) (now (copy .exit)) ⌝ }
+{
+    match clean_copy::copy(moves, labels, copy) {
+        CopyAnswer::Length(bytes) => {
+            *length = bytes as u64;
+            0
+        }
+        CopyAnswer::Refused(number) => number,
     }
 }

@@ -5,25 +5,17 @@ use mathlib.Core.List.{List, [], _∷_}
 use Prim.Native.Nat.{ℕ, zero, suc, _+_, _/_, _%_, _^_, _<_}
 use native.Mathlib.Omega.{arith}
 use lib.Dec.{eqb}
-use lib.ListN.{length, take, getD}
-use lib.Seq.{getD-take}
+use lib.ListN.{length, getD}
 use borrow.Author.Tests.{eq-eqb}
 use Rattle.csl.specs.Text.{Text, same, among}
 use Rattle.csl.specs.Labels.{noRepeat, namesOf, statesOf, placeOf, markAt}
-use Rattle.csl.specs.Moves.{movesOf}
 use Rattle.csl.specs.Sheet.{sheetOf}
 use Rattle.csl.specs.Chain.{chainOf}
-use Rattle.csl.specs.Lent.{column}
 use Rattle.csl.specs.Laws.Grammar.{same-true}
 use Rattle.accepted.specs.Rates.{next-exit-by-lines}
 use Rattle.accepted.specs.Sheet.{SheetPassed}
-use Rattle.numbers.specs.Filled.{at, column-length, column-at}
-use Rattle.moves.specs.Words.{moveWord}
+use Rattle.numbers.specs.Filled.{at}
 use Rattle.labels.specs.Words.{mark-bit}
-use Rattle.rate_matrix.specs.Packed.{wordAway}
-use Rattle.rate_matrix.specs.Away.{AwayWords}
-use Rattle.rate_matrix.specs.Shown.{Shows}
-use Rattle.rate_matrix.specs.Stored.{shows-stored}
 use Rattle.vectors.specs.Places.{marksFrom}
 use Rattle.vectors.specs.Owns.{Owns}
 use Rattle.sheet_words.specs.Stored.{Stored}
@@ -65,27 +57,6 @@ bit-one false = refl
 
 module _ {wanted : Bool} {moves labels : Text} {words₀ words vectors₀ vectors : List ℕ} (p : SheetPassed moves labels)
     (k : Stored wanted moves labels words₀ words vectors₀ vectors) where
-  pub sheet-shown : Shows (chainOf (sheetOf moves labels)) (take (length (movesOf moves)) words) (length (take (length (movesOf moves)) words)) (statesOf labels)
-  sheet-shown = shows-stored lines (sheetOf moves labels) (p .sound) (column-at (moveWord moves) m) many away
-    where
-      m : ℕ
-      m = length (movesOf moves)
-
-      lines : List ℕ
-      lines = column (moveWord moves) m
-
-      many : length lines ≡ m
-      many = column-length (moveWord moves) m
-
-      away : AwayWords lines (take m words)
-      away =
-          record {
-            same = k .taken ∙ sym many;
-            word = λ j l.
-                let h : j < m = omega (arith, many) in
-                getD-take m words j 0 h ∙ k .lines j h ∙ ap wordAway (sym (column-at (moveWord moves) m j h));
-          }
-
   -- the rates to the own state, in their place
   pub sheet-owns : Owns (chainOf (sheetOf moves labels)) vectors (statesOf labels)
   unfolding chainOf

@@ -1,6 +1,7 @@
-// A sheet that passed its tests, in the lent words: its moves in the move words, those to the own state without their rates, and behind them, where it
-// is wanted, their index by the state that they enter; in the vector words the marks of its labels and what is prepared of its moves, the rates to the own
-// state and the ends of the index's rows among it.
+// A sheet that passed its tests, in the lent words. Of the move words the first are its moves in rows by the state that they leave, those to the own
+// state without their rates; behind these stand, where it is wanted, their index by the state that they enter, and otherwise the moves as they came.
+// In the vector words stand the marks of its labels and what is prepared of its moves, the rates to the own state and the ends of the index's rows
+// among it.
 use refusals::Dimensions;
 ghost use Rattle.labels.specs.Words.{stateWord};
 ghost use Rattle.numbers.specs.Filled.{Filled};
@@ -27,7 +28,8 @@ fn store_index(words: &mut [u64], m: usize, vectors: &mut [u64], n: usize, wante
     }
 }
 
-// A sheet's two texts into the lent words, with the index of its moves where that is wanted.
+// A sheet's two texts into the lent words, with the index of its moves where that is wanted. The moves are read to behind the place of the rows,
+// from where they are laid, and where the index then stands.
 pub fn store(
     moves: &[u8],
     labels: &[u8],
@@ -42,8 +44,8 @@ pub fn store(
 {
     let n = sheet.states;
     let m = sheet.moves;
-    moves::store(moves, words);
-    vectors::prepare(&mut words[..m], vectors, n);
+    moves::store(moves, &mut words[m..]);
+    vectors::prepare(words, m, vectors, n);
     store_index(words, m, vectors, n, wanted);
     store_marks(labels, sheet.names, vectors, n);
 }

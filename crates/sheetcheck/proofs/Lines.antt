@@ -6,10 +6,10 @@ use lib.ListN.{length, length-append}
 use Rattle.csl.specs.Verdicts.{Verdict, No, Yes, Undecided}
 use Rattle.csl.specs.Order.{isAbove, worstFirst, byNumber, In}
 use Rattle.csl.specs.Order.In.{here, there}
-use Rattle.csl.specs.Report.{verdictWord, rowText, rowsText, listingText, reportText, refusalText}
+use Rattle.csl.specs.Report.{verdictWord, rowText, rowsText, listingText, reportText}
 use Rattle.csl.specs.Laws.Order.{rows-rank, ordered-within, ordered-length}
 use Rattle.csl.specs.Laws.Listing.{by-number-within, by-number-length}
-use Rattle.report.specs.Decimal.{length-within}
+use Rattle.csl.specs.Laws.Decimal.{length-within}
 use Rattle.sheetcheck.proofs.Limits.{InRange}
 
 -- the longest word is `undecided`
@@ -52,7 +52,3 @@ module _ (n : ℕ) (lower upper : ℕ → ℕ) (d : ℕ) (v : ℕ → Verdict) (
         rows-few (worstFirst lower upper n) (ordered-within _ (rows-rank lower upper) n),
         ordered-length (isAbove lower upper) n,
       ))
-
-pub refusal-few : (k : ℕ) → k < 100 → length (refusalText k) ≤ 11
-unfolding refusalText
-refusal-few k h = simp length-append (omega (arith, length-within 1 k (omega arith)))

@@ -27,11 +27,13 @@ use Rattle.report.specs.declared.Rendered.{Rendered}
 use Rattle.report.specs.declared.Rendered.the-variants as rendered
 use Rattle.report.specs.Listing.{listings}
 use Rattle.report.specs.Rendering.{isComplete, fits, Printed}
+use Rattle.report.specs.Refused.{refusal-few}
 use Rattle.report.specs.Worst.{worst-are-states, worst-listed}
-use Rattle.sheetcheck.specs.declared.answer.Written.{Written}
-use Rattle.sheetcheck.specs.Prints.{Prints, Answered, lengthOf, numberIn, numberOr0}
+use Rattle.console.specs.Told.{numberOr0}
+use Rattle.console.specs.declared.printing.Written.{Written}
+use Rattle.sheetcheck.specs.Prints.{Prints, Answered, lengthOf, numberIn}
 use Rattle.sheetcheck.proofs.Limits.{none-short, depth-few, InRange, ends-in-range}
-use Rattle.sheetcheck.proofs.Lines.{report-few, refusal-few}
+use Rattle.sheetcheck.proofs.Lines.{report-few}
 
 -- the buffers that the program lends
 pub record Roomy (b : Buffers (List ℕ)) : Type 0 where

@@ -12,7 +12,8 @@ use Rattle.csl.specs.Refusal.{Job, jobStates, jobChain, jobFormula, textRefusal
 use Rattle.csl.specs.Finished.{Answer, refusedWith, acceptedWith}
 use Rattle.report.specs.declared.Rendered.{Rendered}
 use Rattle.report.specs.declared.Rendered.the-variants as rendered
-use Rattle.sheetcheck.specs.declared.answer.Written.{Written}
+use Rattle.console.specs.Told.{numberOr0}
+use Rattle.console.specs.declared.printing.Written.{Written}
 
 -- the text is a report that has a backing
 pub record PrintsReport (j : Job) (text : Text) : Type 0 where
@@ -29,11 +30,6 @@ PrintsBy j none text = PrintsReport j text
 -- by the three texts alone: the program lends buffers that are long enough for every job
 unfoldable pub Prints : Job → Text → Type 0
 Prints j text = PrintsBy j (textRefusal j) text
-
--- the number of a refusal, 0 where there is none
-abbrev pub numberOr0 : Option ℕ → ℕ
-numberOr0 (some number) = number
-numberOr0 none = 0
 
 -- the text for a job stands at the front of a buffer, whose other bytes are as they were; its length and the refusal's number are answered
 pub record Answered (j : Job) (old new : List ℕ) (r : Written) : Type 0 where

@@ -1,4 +1,5 @@
 // The text that is printed for a job.
+use console::Written;
 use limits::MOST_STATES;
 use report::Rendered;
 use verdicts::Answer;
@@ -19,14 +20,6 @@ const MARK_BYTES: usize = limits::MOST_NODES * MOST_STATES;
 
 // The length of a buffer that has room for every printed text.
 pub const TEXT_BYTES: usize = 65536;
-
-// What was written for a job.
-pub struct Written {
-    // How many bytes.
-    pub length: usize,
-    // The number that the job is refused with, 0 where the bytes are its report.
-    pub number: u64,
-}
 
 // Writes what the program prints for three texts to the front of `out`. The buffers that it lends are long enough for every job, so that no
 // job is refused for them.

@@ -202,7 +202,7 @@ number-facts most d h =
     let r = and-eq-true-iff (every isDigit d) (leb 1 (length d)) .0 (q .0) in
     (r .0, leb-true (length d) most (q .1))
 
-pub number-below : (d : Text) → isNumber sheetDigits d ≡ true → valueOf d < 1000000000
+number-below : (d : Text) → isNumber sheetDigits d ≡ true → valueOf d < 1000000000
 number-below d h =
     let f = number-facts sheetDigits d h in
     omega (arith, value-below 0 d (f .0), pow-le-pow-right {n = 10} (omega arith) (f .1))

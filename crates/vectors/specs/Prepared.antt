@@ -3,16 +3,17 @@ use mathlib.Core.Path.{_≡_, _∙_}
 use mathlib.Core.List.{List}
 use Prim.Native.Nat.{ℕ, suc, _+_, _≤_, _<_}
 use native.Mathlib.Omega.{arith}
-use lib.ListN.{length}
+use lib.ListN.{length, take, drop}
 use Rattle.csl.specs.Limits.{mostStates, mostRate}
 use Rattle.numbers.specs.Sum.{greatest-le, greatest-most}
-use Rattle.rate_matrix.specs.Words.{at, exitOf, topOf, rowOf, Lines}
-use Rattle.rate_matrix.specs.Away.{ownOf, AwayWords}
+use Rattle.rate_matrix.specs.Words.{at, exitOf, topOf, rowOf, Lines, InRows}
+use Rattle.rate_matrix.specs.Laid.{ownOf, LaidIn}
 use Rattle.vectors.specs.Places.{valuesFrom, exitsFrom, weightsFrom, marksFrom, vectorLength, ownsFrom, exitAt, endAt, EndsStored}
 
--- The exit rates and the row ends of the move words mv stand in their places, for n states, and q is the greatest exit rate.
+-- The move words mv stand in rows, their exit rates and the ends of the rows in their places, for n states, and q is the greatest exit rate.
 pub record Rates (mv l : List ℕ) (n q : ℕ) : Type 0 where
   pub lines : Lines mv (length mv) n
+  pub rows : InRows mv (length mv)
   pub long : vectorLength n ≤ length l
   pub exits : (s : ℕ) → s < n → exitAt l n s ≡ exitOf mv (length mv) s
   pub ends : (s : ℕ) → s < n → endAt l n s ≡ rowOf mv (length mv) (suc s)
@@ -35,6 +36,7 @@ pub rates-kept : {mv l l' : List ℕ} {n q : ℕ} → Rates mv l n q → length 
 rates-kept p e h =
     record {
       lines = p .lines;
+      rows = p .rows;
       long = omega (arith, p .long);
       exits = λ s b. h _ (omega arith) (omega arith) ∙ p .exits s b;
       ends = λ s b. h _ (omega arith) (omega arith) ∙ p .ends s b;
@@ -66,17 +68,18 @@ module _ {mv l : List ℕ} {n q : ℕ} (p : Rates mv l n q) where
   unfolding topOf
   rates-small = rw (p .top) (greatest-most (exitOf mv (length mv)) mostRate n (p .lines .limit))
 
--- move words, and room for what is made of them
-pub record PrepareAsked (mv l : List ℕ) (n : ℕ) : Type 0 where
-  pub lines : Lines mv (length mv) n
+-- m move words behind the first m, and room for what is made of them
+pub record PrepareAsked (mv : List ℕ) (m : ℕ) (l : List ℕ) (n : ℕ) : Type 0 where
+  pub lines : Lines (drop m mv) m n
+  pub behind : m + m ≤ length mv
   pub long : vectorLength n ≤ length l
 
--- the move words mv have become mv', which lack the rates to the own state; the words are prepared for mv', with these rates in their place
--- and 0 in the places of the ends too, and all from the marks on is as it was
-pub record Laid (mv mv' : List ℕ) (n : ℕ) (old new : List ℕ) : Type 0 where
-  pub away : AwayWords mv mv'
-  pub prepared : Prepared mv' new n (topOf mv' (length mv') n)
-  pub owns : (s : ℕ) → s < n → at new (ownsFrom n + s) ≡ ownOf mv (length mv) s
+-- these are laid in rows as the first m of mv', without their rates to the own state; the words are prepared for them, with these rates in their
+-- place and 0 in the places of the ends too, and all from the marks on is as it was
+pub record Laid (mv mv' : List ℕ) (m n : ℕ) (old new : List ℕ) : Type 0 where
+  pub laid : LaidIn mv mv' m
+  pub prepared : Prepared (take m mv') new n (topOf (take m mv') m n)
+  pub owns : (s : ℕ) → s < n → at new (ownsFrom n + s) ≡ ownOf (drop m mv) m s
   pub ends : (k : ℕ) → k < valuesFrom n → at new k ≡ 0
   pub same : length new ≡ length old
   pub beyond : (k : ℕ) → marksFrom n ≤ k → at new k ≡ at old k

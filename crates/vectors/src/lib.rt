@@ -91,14 +91,14 @@ pub fn length(n: usize) -> usize
     limits::VECTOR_PLACES * n + limits::VECTOR_SPARE
 }
 
-// The words before the marks, prepared: the exit rates and the row ends of the move words in their places, then the rates to the own state,
-// which the move words give up; and 0 in all others.
-pub fn prepare(moves: &mut [u64], words: &mut [u64], n: usize)
-    requires { ⌜ PrepareAsked (now moves) (now words) n ⌝ }
-    ensures { λ _. ⌜ Laid (now (moves .entry)) (now (moves .exit)) n (now (words .entry)) (now (words .exit)) ⌝ }
+// The m move words that stand behind the first m, laid in rows as the first m; and the words before the marks, prepared: the exit rates and the
+// ends of the rows in their places, then the rates to the own state, which the laid words no longer have, and 0 in all others.
+pub fn prepare(moves: &mut [u64], m: usize, words: &mut [u64], n: usize)
+    requires { ⌜ PrepareAsked (now moves) m (now words) n ⌝ }
+    ensures { λ _. ⌜ Laid (now (moves .entry)) (now (moves .exit)) m n (now (words .entry)) (now (words .exit)) ⌝ }
 {
     zeros::clear_from(words, 0, marks(n));
-    rate_matrix::prepare(moves, words, EXITS * n, n);
+    rate_matrix::prepare(moves, m, words, EXITS * n, n);
 }
 
 // The words that are worked in, back to 0.

@@ -86,6 +86,4 @@ next-moves =
       only-restarts-printed = only-restarts-print;
       high-sum = refl;
       strange-restart = refl;
-      falling-restart = refl;
-      twice = refl;
     }

@@ -1,17 +1,23 @@
 -- `store` meets its contract. Assumes nothing.
-use Rattle.sheet_words.proofs.StoreLaw.{first-words, words-counted, prepare-asked, may-index-words, marks-asked, stored}
 use borrow.Author.Needs.{needs}
+use Rattle.sheet_words.proofs.StoreLaw.{rows-room, byte-fits, moves-room, prepare-asked, may-index-words, marks-asked, stored}
 use Rattle.sheet_words.proofs.store.Statement.{statement}
 use Rattle.sheet_words.proofs.store.Tie as tie
 
+mul-store : tie.Need-mul-store
+mul-store c = search (needs, byte-fits)
+
+sub-store : tie.Need-sub-store
+sub-store c = search (needs, rows-room)
+
+part-store-start : tie.Need-part-store-start
+part-store-start c = search (needs, rows-room)
+
+part-store-end : tie.Need-part-store-end
+part-store-end c = search needs
+
 store-requires : tie.Need-store-requires
-store-requires c κs = search needs
-
-slice-relend-prefix-prepare : tie.Need-slice-relend-prefix-prepare
-slice-relend-prefix-prepare c = search (needs, first-words)
-
-slice-aggregate-prepare : tie.Need-slice-aggregate-prepare
-slice-aggregate-prepare c = search (needs, words-counted)
+store-requires c κs = search (needs, moves-room)
 
 prepare-requires : tie.Need-prepare-requires
 prepare-requires c κs = search (needs, prepare-asked)
@@ -23,9 +29,9 @@ store-marks-requires : tie.Need-store-marks-requires
 store-marks-requires c κs =
     let indexed = c .before .before .before .before .before in
     let prepared = indexed .before .before .before .before .before .before .before in
-    let lines = prepared .before .before .before .before .before in
-    let began = lines .before .before .before .before .before .before in
-    marks-asked (began .pre) (lines .store .ensures) (prepared .prepare .ensures) (indexed .store-index .ensures)
+    let moved = prepared .before .before .before .before .before in
+    let began = moved .before .before .before .before .before .before in
+    marks-asked (began .pre) (moved .store .ensures) (prepared .prepare .ensures) (indexed .store-index .ensures)
 
 same-length : tie.Need-same-length
 same-length c = search needs
@@ -40,9 +46,11 @@ pub store-spec : {M : Type 1} → statement M
 store-spec =
     tie.close
     (tie.spec
+    mul-store
+    sub-store
+    part-store-start
+    part-store-end
     store-requires
-    slice-relend-prefix-prepare
-    slice-aggregate-prepare
     prepare-requires
     store-index-requires
     store-marks-requires

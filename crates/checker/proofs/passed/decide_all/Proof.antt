@@ -1,5 +1,5 @@
 -- `decide_all` meets its contract. Assumes nothing.
-use Rattle.checker.proofs.ReportLaw.{decide-laws, store-asked, some, marks-counted, decide-asked, all-decided}
+use Rattle.checker.proofs.ReportLaw.{decide-laws, store-asked, some, end-fits, byte-fits, marks-counted, decide-asked, all-decided}
 use mathlib.Core.Path.{refl}
 use borrow.Author.Needs.{needs}
 use Rattle.checker.proofs.passed.decide_all.Statement.{statement}
@@ -24,10 +24,10 @@ slice-aggregate-decide : tie.Need-slice-aggregate-decide
 slice-aggregate-decide c = search (needs, decide-laws)
 
 add-decide : tie.Need-add-decide
-add-decide c = search needs
+add-decide c = search (needs, end-fits)
 
 mul-decide : tie.Need-mul-decide
-mul-decide c = search needs
+mul-decide c = search (needs, byte-fits)
 
 sub-decide : tie.Need-sub-decide
 sub-decide c = search needs

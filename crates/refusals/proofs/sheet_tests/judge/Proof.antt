@@ -1,5 +1,5 @@
 -- `judge` meets its contract. Assumes nothing.
-use Rattle.refusals.proofs.JudgeLaw.{at-2, at-3, at-4, at-5, at-6, at-8, at-9, at-end}
+use Rattle.refusals.proofs.JudgeLaw.{at-2, at-3, at-4, at-5, at-6, at-9, at-end}
 use Rattle.refusals.proofs.sheet_tests.judge.Statement.{statement}
 use Rattle.refusals.proofs.sheet_tests.judge.Tie as tie
 
@@ -19,13 +19,10 @@ returns-5 : tie.Need-returns-5
 returns-5 c = search at-6
 
 returns-6 : tie.Need-returns-6
-returns-6 c = search at-8
+returns-6 c = search at-9
 
 returns-7 : tie.Need-returns-7
-returns-7 c = search at-9
-
-returns-8 : tie.Need-returns-8
-returns-8 c = search at-end
+returns-7 c = search at-end
 
 pub judge-spec : {M : Type 1} → statement M
 judge-spec =
@@ -37,5 +34,4 @@ judge-spec =
     returns-4
     returns-5
     returns-6
-    returns-7
-    returns-8)
+    returns-7)

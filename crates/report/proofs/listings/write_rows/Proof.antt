@@ -4,7 +4,7 @@ use native.Mathlib.Omega.{arith}
 use mathlib.Core.Path.{_≡_}
 use Prim.Native.Nat.{_≤_, _-_}
 use lib.ListN.{length}
-use Rattle.report.specs.Place.{Wrote}
+use Rattle.decimals.specs.Place.{Wrote}
 use Rattle.report.specs.Listing.{rows}
 use Rattle.report.proofs.LinesLaw.{lines-none, lines-room, lines-more, lines-all}
 use Rattle.report.proofs.StatesLaw.{read-laws}

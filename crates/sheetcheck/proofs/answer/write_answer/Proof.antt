@@ -65,7 +65,7 @@ returns c =
     let rendered = c .before .before .before .before in
     let checked = before-rendered rendered in
     text-answered _
-    (answer-text _ _ _ _ _ _ _ _ (before-checked checked .pre) (rendered .render .ensures) (checked .check .ensures .0) (checked .check .ensures .1)
+    (answer-text _ _ _ _ _ _ _ _ (before-checked checked .pre) (rendered .render .ensures) (checked .check .ensures .0) (checked .check .ensures .1 .1)
     (record { lowers = omega arith; uppers = omega arith; bytes = omega arith; places = omega arith; words = omega arith; vectors = omega arith; marks = omega arith }))
     (c .before .length-of .ensures) (c .number-in .ensures)
 

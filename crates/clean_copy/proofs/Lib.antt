@@ -1,0 +1,8 @@
+-- Laws behind the proofs of `clean_copy`.
+mod PairLaw
+mod RowLaw
+mod RatesLaw
+mod WholeLaw
+mod AnswerLaw
+mod LayLaw
+mod CopyLaw

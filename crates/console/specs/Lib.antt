@@ -1,0 +1,2 @@
+-- What a number tells of.
+pub mod Told

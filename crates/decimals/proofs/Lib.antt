@@ -1,0 +1,3 @@
+-- Laws behind the proofs of `decimals`.
+mod BytesLaw
+mod DigitsLaw

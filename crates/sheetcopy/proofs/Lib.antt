@@ -1,0 +1,2 @@
+-- Laws behind the text for a copy.
+mod CopyLaw

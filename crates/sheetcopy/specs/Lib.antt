@@ -1,0 +1,2 @@
+-- What the program prints for moves that are to be copied.
+pub mod Prints
