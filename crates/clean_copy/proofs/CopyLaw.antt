@@ -68,16 +68,17 @@ module _ (moves labels : Text) {r : TestedSheet} (e : r ≡ testedSheet moves la
           long = omega (arith, states-are, passed .sound .few-states);
         }
 
-    -- what is laid has the copy of the texts, and 17 is tested last
+    -- 17 is tested last
+    same-refusal : (lent : ℕ) → copyRefusal moves labels lent ≡ shortFor (copyText moves labels) lent
+    unfolding copyRefusal firstOf
+    same-refusal lent = first-after (sheetTests moves labels) (test 17 (shortCopy moves labels lent) ∷ []) (first-none (sheetTests moves labels) passes)
+
+    -- what is laid has the copy of the texts
     module _ {rows columns : List ℕ} (l : LaidFor (movesOf moves) (r .sheet .states) rows columns) where
       same-copy : laidCopy rows columns (r .sheet .states) ≡ copyText moves labels
       unfolding laidCopy copyOf chainOf
       same-copy =
           rw (below-same (laidRate rows columns (r .sheet .states)) (rateIn (movesOf moves)) (r .sheet .states) (r .sheet .states) (l .rates), states-are) refl
-
-      same-refusal : (lent : ℕ) → copyRefusal moves labels lent ≡ shortFor (copyText moves labels) lent
-      unfolding copyRefusal firstOf
-      same-refusal lent = first-after (sheetTests moves labels) (test 17 (shortCopy moves labels lent) ∷ []) (first-none (sheetTests moves labels) passes)
 
       pub copy-made : (before after : List ℕ) (a : CopyAnswer) → CopiedAs (laidCopy rows columns (r .sheet .states)) before a after
           → Copied moves labels before (answerOf a) after

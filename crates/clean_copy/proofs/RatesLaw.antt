@@ -32,7 +32,7 @@ module _ {rows columns : List ℕ} {n : ℕ} (p : Laid rows columns n) (s : ℕ)
   begin-next h d = let e : suc (s - 1) ≡ s = omega arith in p .ends (s - 1) (omega arith) ∙ ap (rowOf rows (length rows)) e
 
   -- no rate is over the limit
-  pub rate-most : s < n → (t : ℕ) → t < n → rateBetween rows (length rows) s t ≤ mostRate
+  rate-most : s < n → (t : ℕ) → t < n → rateBetween rows (length rows) s t ≤ mostRate
   rate-most h t l =
       omega (
         arith,

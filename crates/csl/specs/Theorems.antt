@@ -430,6 +430,8 @@ module _ (c : Chain) (x : ℕ → Bool) (s : ℕ) where
       × (nextFraction c x s .top ≡ nextFraction c x s .bottom → EntersOnly c x s)
   next-certain-exactly-at-1 = (next-full c x s, λ e. next-all c x s (omega (arith, e)))
 
+-- T11 to T13, of moves texts that say the same chain and of the clean copy, are in the crate `same_chain`.
+
 -- The reader of formulas is the grammar as document 01 lists it: tokens are read as a formula exactly where they spell it, so a text has
 -- at most one reading.
 pub formulas-are-read-where-they-are-spelled : (ts : List Text) (f : Formula) → Spells f ts → whole (readState (length ts) ts) ≡ some f

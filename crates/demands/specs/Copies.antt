@@ -114,8 +114,8 @@ module _ (moves labels : Text) (before : List ℕ) (a : CopyAnswer) (after : Lis
     unfolding firstOf
     fits = not-first (shortCopy moves labels (length before)) (none-right (sheetTests moves labels) _ tested)
 
-    pub has-the-copy-s-length : (l ≡ length copy) × (l ≤ length before) × (l ≤ length moves)
-    has-the-copy-s-length =
+    pub length-is-that-of-the-copy : (l ≡ length copy) × (l ≤ length before) × (l ≤ length moves)
+    length-is-that-of-the-copy =
         let r : length copy ≤ length before = ltb-false (length before) (length copy) fits in
         let e : l ≡ length copy = same-length l (length copy) a made (copied-where-it-fits made-of-texts-that-passed r .0) in
         (e, omega arith, omega (arith, theorems.copies-are-no-longer moves labels made-of-texts-that-passed))
@@ -125,7 +125,7 @@ module _ (moves labels : Text) (before : List ℕ) (a : CopyAnswer) (after : Lis
     pub what-stands-there : take l after ≡ copy
     what-stands-there =
         let r : length copy ≤ length before = ltb-false (length before) (length copy) fits in
-        ap (λ (x : ℕ). take x after) (has-the-copy-s-length .0) ∙ copied-where-it-fits made-of-texts-that-passed r .1
+        ap (λ (x : ℕ). take x after) (length-is-that-of-the-copy .0) ∙ copied-where-it-fits made-of-texts-that-passed r .1
 
     pub read-back-it-passes : firstOf (sheetTests (take l after) labels) ≡ none
     read-back-it-passes = rw what-stands-there (theorems.copies-are-accepted moves labels made-of-texts-that-passed)

@@ -8,6 +8,7 @@ use mathlib.Core.Logic.{_⊎_}
 use mathlib.Core.Option.{none, some}
 use Prim.Native.Nat.{ℕ, suc, _+_, _*_, _-_, _≤_, _<_}
 use lib.ListN.{take, drop}
+use Rattle.csl.specs.Text.{Text}
 use Rattle.csl.specs.Limits.{billion, widthFactor}
 use Rattle.csl.specs.Moves.{ratesOut}
 use Rattle.csl.specs.Formula.{Formula, chance, Path, until, nextMove, between, PathOf, twoPhases, Comparison}
@@ -29,6 +30,9 @@ use Rattle.csl.specs.Lent.{Buffers, lengths}
 use Rattle.csl.specs.Refusal.{Job, jobStates, jobMoves, jobChain, jobFormula, refusal, accepted, outcome}
 use Rattle.csl.specs.Finished.{Answer, refusedWith, acceptedWith, Finished}
 use Rattle.csl.specs.Theorems as theorems
+use Rattle.same_chain.specs.SameJob.{SameLines}
+use Rattle.same_chain.specs.Theorems as same
+use Rattle.same_chain.specs.Theorems.{jobWith}
 use Rattle.accepted.specs.Rates.{others}
 use Rattle.accepted.specs.Job.{refusal-number-not-7, refusal-number-not-8}
 use Rattle.demands.specs.Proved as proved
@@ -59,6 +63,12 @@ module _ (j : Job) (before : Buffers (List ℕ)) (a : Answer) (after : Buffers (
 
   pub accepted-only-then : (d : ℕ) → a ≡ acceptedWith d → refusal j (lengths before) ≡ none
   accepted-only-then d h = proved.accepted-then j before a after finished d h
+
+-- "lines may stand in any order": the same lines in another order are the same job to all that is demanded, since what is finished for one is finished
+-- for the other (that `checker::check` leaves the same bytes is `same-bytes` of checker/specs/Alike)
+pub finished-in-any-order : (a b : Text) → SameLines a b → (labels formula : Text) (before : Buffers (List ℕ)) (x : Answer) (after : Buffers (List ℕ))
+    → Finished (jobWith a labels formula) before x after → Finished (jobWith b labels formula) before x after
+finished-in-any-order a b h labels formula before x after k = same.finished-in-any-order a b h labels formula before x after k
 
 -- ".. rate, depth and labels exact": an accepted job is decided over the chain of its texts, at that chain's greatest exit rate. (That the
 -- code's q is this one is the field `q` of what `refusals::test_sheet` promises: `dimensionsOf` of refusals/specs/Sheet.)

@@ -121,6 +121,9 @@ module _ {m₀ labels : Text} (p : SheetPassed m₀ labels) {words₀ words₁ :
           → Stored wanted m₀ labels words₀ words vectors₀ vectors
       all-stored {vectors} f =
           record {
+            lines = drop m words₁;
+            holds = holds;
+            rows = rw still (l .laid .rows);
             shows = rw (many, still) shows;
             index = λ e. index-kept (shown e) (λ s b. f .before _ (omega arith));
             words-same = words-same;

@@ -13,7 +13,9 @@ use Rattle.csl.specs.Chain.{chainOf, topRate}
 use Rattle.accepted.specs.Sheet.{SheetPassed}
 use Rattle.numbers.specs.Filled.{at}
 use Rattle.labels.specs.Words.{stateWord}
+use Rattle.rate_matrix.specs.Laid.{RowsOf}
 use Rattle.rate_matrix.specs.Shown.{Shows}
+use Rattle.rate_matrix.specs.Stored.{Holds}
 use Rattle.incoming_moves.specs.Indexed.{Indexed}
 use Rattle.incoming_moves.specs.Shown.{IndexShows}
 use Rattle.vectors.specs.Places.{valuesFrom, ownsFrom, marksFrom, vectorLength, ownAt}
@@ -48,10 +50,13 @@ pub record IndexStored (wanted : Bool) (mv mv' : List ℕ) (m n : ℕ) (old new 
   pub else : (k : ℕ) → (ownsFrom n ≤ k → k < ownsFrom n + n → ⊥) → at new k ≡ at old k
   pub index : wanted ≡ true → Indexed mv mv' m (ownsFrom n) n old new
 
--- The first move words are the sheet's moves in rows, and show its chain; behind them, where it is wanted, is the index of the moves by the state
+-- The first move words are the sheet's moves, of which `lines` has a word for each, in rows by the state that they leave, and show its chain; behind them, where it is wanted, is the index of the moves by the state
 -- that they enter. The vector words are prepared for them at the sheet's uniformisation rate, with the rates to the own state and the marks of the
 -- labels in their places, and with 0 in the places of the ends too. All other words are as they were.
 pub record Stored (wanted : Bool) (moves labels : Text) (words₀ words vectors₀ vectors : List ℕ) : Type 0 where
+  pub lines : List ℕ
+  pub holds : Holds lines (movesOf moves)
+  pub rows : RowsOf lines (take (length (movesOf moves)) words) (length (movesOf moves))
   pub shows : Shows (chainOf (sheetOf moves labels)) (take (length (movesOf moves)) words) (length (take (length (movesOf moves)) words)) (statesOf labels)
   pub index : wanted ≡ true → IndexShows (chainOf (sheetOf moves labels)) (take (length (movesOf moves)) (drop (length (movesOf moves)) words)) vectors
       (ownsFrom (statesOf labels)) (statesOf labels)

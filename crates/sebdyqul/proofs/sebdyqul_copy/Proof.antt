@@ -17,13 +17,13 @@ same-length : tie.Need-same-length
 same-length c = search needs
 
 returns : tie.Need-returns
-returns c = search (needs, copied-called, refused-called)
+returns c = search (needs, copied-called)
 
 same-length-2 : tie.Need-same-length-2
 same-length-2 c = search needs
 
 returns-2 : tie.Need-returns-2
-returns-2 c = search (needs, copied-called, refused-called)
+returns-2 c = search (needs, refused-called)
 
 pub sebdyqul-copy-spec : {M : Type 1} → statement M
 sebdyqul-copy-spec =

@@ -15,22 +15,22 @@ loop-holds : tie.Need-loop-holds Inv-loop μ-loop
 loop-holds c = search (needs, measure-laws)
 
 mul-pair-length : tie.Need-mul-pair-length Inv-loop μ-loop
-mul-pair-length c = search (needs, measure-laws)
+mul-pair-length c = search needs
 
 shared-slice-read-pair-length : tie.Need-shared-slice-read-pair-length Inv-loop μ-loop
-shared-slice-read-pair-length c = search (needs, measure-laws)
+shared-slice-read-pair-length c = search needs
 
 pair-length-requires : tie.Need-pair-length-requires Inv-loop μ-loop
-pair-length-requires c κs = search (needs, measure-laws)
+pair-length-requires c κs = search needs
 
 add-length : tie.Need-add-length Inv-loop μ-loop
-add-length c = search (needs, measure-laws)
+add-length c = search needs
 
 add-to : tie.Need-add-to Inv-loop μ-loop
-add-to c = search (needs, measure-laws)
+add-to c = search needs
 
 loop-less : tie.Need-loop-less Inv-loop μ-loop
-loop-less c = search (needs, measure-laws)
+loop-less c = search needs
 
 loop-again : tie.Need-loop-again Inv-loop μ-loop
 loop-again c = search (needs, measure-laws)

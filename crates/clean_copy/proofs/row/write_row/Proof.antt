@@ -15,25 +15,25 @@ loop-holds : tie.Need-loop-holds Inv-loop μ-loop
 loop-holds c = search (needs, write-laws)
 
 mul-write-pair : tie.Need-mul-write-pair Inv-loop μ-loop
-mul-write-pair c = search (needs, write-laws)
+mul-write-pair c = search needs
 
 shared-slice-read-write-pair : tie.Need-shared-slice-read-write-pair Inv-loop μ-loop
-shared-slice-read-write-pair c = search (needs, write-laws)
+shared-slice-read-write-pair c = search needs
 
 write-pair-requires : tie.Need-write-pair-requires Inv-loop μ-loop
 write-pair-requires c κs = search (needs, write-laws)
 
 add-to : tie.Need-add-to Inv-loop μ-loop
-add-to c = search (needs, write-laws)
+add-to c = search needs
 
 loop-less : tie.Need-loop-less Inv-loop μ-loop
-loop-less c = search (needs, write-laws)
+loop-less c = search needs
 
 loop-again : tie.Need-loop-again Inv-loop μ-loop
 loop-again c = search (needs, write-laws)
 
 same-length : tie.Need-same-length Inv-loop μ-loop
-same-length c = search (needs, write-laws)
+same-length c = search needs
 
 returns : tie.Need-returns Inv-loop μ-loop
 returns c = search (needs, write-laws)

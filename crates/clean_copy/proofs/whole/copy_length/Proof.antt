@@ -16,19 +16,19 @@ loop-holds : tie.Need-loop-holds Inv-loop μ-loop
 loop-holds c = search (needs, visit-laws, measure-laws)
 
 gather-requires : tie.Need-gather-requires Inv-loop μ-loop
-gather-requires c κs = search (needs, visit-laws, measure-laws)
+gather-requires c κs = search needs
 
 row-length-requires : tie.Need-row-length-requires Inv-loop μ-loop
-row-length-requires c κs = search (needs, visit-laws, measure-laws)
+row-length-requires c κs = search needs
 
 add-length : tie.Need-add-length Inv-loop μ-loop
-add-length c = search (needs, visit-laws, measure-laws)
+add-length c = search needs
 
 add-s : tie.Need-add-s Inv-loop μ-loop
-add-s c = search (needs, visit-laws, measure-laws)
+add-s c = search needs
 
 loop-less : tie.Need-loop-less Inv-loop μ-loop
-loop-less c = search (needs, visit-laws, measure-laws)
+loop-less c = search needs
 
 loop-again : tie.Need-loop-again Inv-loop μ-loop
 loop-again c =
@@ -39,7 +39,7 @@ loop-again c =
     )
 
 same-length : tie.Need-same-length Inv-loop μ-loop
-same-length c = search (needs, visit-laws, measure-laws)
+same-length c = search needs
 
 returns : tie.Need-returns Inv-loop μ-loop
 returns c = search (needs, visit-laws, measure-laws)

@@ -16,16 +16,16 @@ loop-holds : tie.Need-loop-holds Inv-loop μ-loop
 loop-holds c = search (needs, visit-laws, write-laws)
 
 gather-requires : tie.Need-gather-requires Inv-loop μ-loop
-gather-requires c κs = search (needs, visit-laws, write-laws)
+gather-requires c κs = search needs
 
 write-row-requires : tie.Need-write-row-requires Inv-loop μ-loop
 write-row-requires c κs = search (needs, visit-laws, write-laws)
 
 add-s : tie.Need-add-s Inv-loop μ-loop
-add-s c = search (needs, visit-laws, write-laws)
+add-s c = search needs
 
 loop-less : tie.Need-loop-less Inv-loop μ-loop
-loop-less c = search (needs, visit-laws, write-laws)
+loop-less c = search needs
 
 loop-again : tie.Need-loop-again Inv-loop μ-loop
 loop-again c =
@@ -37,10 +37,10 @@ loop-again c =
     )
 
 same-length : tie.Need-same-length Inv-loop μ-loop
-same-length c = search (needs, visit-laws, write-laws)
+same-length c = search needs
 
 same-length-2 : tie.Need-same-length-2 Inv-loop μ-loop
-same-length-2 c = search (needs, visit-laws, write-laws)
+same-length-2 c = search needs
 
 returns : tie.Need-returns Inv-loop μ-loop
 returns c = search (needs, visit-laws, write-laws)
