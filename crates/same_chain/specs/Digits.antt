@@ -11,7 +11,7 @@ use borrow.Author.Tests.{le-leb, leb-true, ne-eqb, eqb-false}
 use Rattle.csl.specs.Text.{Text, every}
 use Rattle.csl.specs.Number.{isDigit, zeroLed, isNumber, valueFrom, valueOf}
 use Rattle.csl.specs.Report.{lastDigit, decimal}
-use Rattle.csl.specs.Laws.Decimal.{order, digits-one, digits-more, length-within, length-some}
+use Rattle.csl.specs.Laws.Decimal.{digit-range, order, digits-one, digits-more, length-within, length-some}
 
 pub every-append : {A : Type 0} (p : A → Bool) (s t : List A) → every p s ≡ true → every p t ≡ true → every p (s ++ t) ≡ true
 unfolding every
@@ -38,9 +38,6 @@ module _ (p : ℕ → Bool) (h : (d : ℕ) → d < 10 → p (48 + d) ≡ true) w
 
 digit-is : (d : ℕ) → d < 10 → isDigit (48 + d) ≡ true
 digit-is d h = and-eq-true-iff (leb 48 (48 + d)) (leb (48 + d) 57) .1 (le-leb 48 (48 + d) (omega arith), le-leb (48 + d) 57 (omega arith))
-
-digit-range : (b : ℕ) → isDigit b ≡ true → (48 ≤ b) × (b ≤ 57)
-digit-range b h = let i = and-eq-true-iff (leb 48 b) (leb b 57) .0 h in (leb-true 48 b (i .0), leb-true b 57 (i .1))
 
 -- the value of what is written
 value-append : (v : ℕ) (s t : Text) → valueFrom v (s ++ t) ≡ valueFrom (valueFrom v s) t

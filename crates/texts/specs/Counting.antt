@@ -4,20 +4,14 @@ use Prim.Native.Nat.{ℕ, zero, suc, _+_, _*_, _-_, _^_, _≤_, _<_}
 use native.Mathlib.Omega.{arith}
 use native.Mathlib.Nat.{pow-suc, pow-le-pow-right}
 use native.Mathlib.Numerals.{add-one}
-use mathlib.Core.Bool.{true, false, and-eq-true-iff, false≢true}
+use mathlib.Core.Bool.{true, false, false≢true}
 use mathlib.Core.List.{[], _∷_}
 use lib.ListN.{length, getD, drop}
 use lib.Seq.{drop-cons}
-use lib.Dec.{leb}
-use borrow.Author.Tests.{leb-true}
 use Rattle.csl.specs.Text.{Text}
 use Rattle.csl.specs.Number.{isDigit, valueFrom, valueOf}
+pub use Rattle.csl.specs.Laws.Decimal.{digit-range}
 use Rattle.texts.specs.Digits.{digitRun}
-
-pub digit-range : (b : ℕ) → isDigit b ≡ true → (48 ≤ b) × (b ≤ 57)
-digit-range b h =
-    let p = and-eq-true-iff (leb 48 b) (leb b 57) .0 h in
-    (leb-true 48 b (p .0), leb-true b 57 (p .1))
 
 -- `used` of the digits at the start of s are counted, and spell `value`
 pub record Counting (s : Text) (value used : ℕ) : Type 0 where

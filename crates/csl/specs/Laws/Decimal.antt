@@ -1,15 +1,22 @@
 -- Laws of the decimal digits of a number. Assumes nothing.
 use mathlib.Core.Path.{_≡_, refl, sym, ap, _∙_}
-use mathlib.Core.Bool.{Bool, true, false}
+use mathlib.Core.Bool.{Bool, true, false, and-eq-true-iff}
 use mathlib.Core.List.{_++_}
 use mathlib.Core.Logic.{_⊎_, inl, inr, ⊎-elim}
 use Prim.Native.Nat.{ℕ, zero, suc, _+_, _/_, _^_, _≤_, _<_}
 use native.Mathlib.Nat.{pow-suc}
 use native.Mathlib.Omega.{arith}
 use lib.ListN.{length, length-append}
-use lib.Dec.{ltb}
-use borrow.Author.Tests.{lt-ltb, le-ltb, ltb-true, ltb-false}
+use lib.Dec.{leb, ltb}
+use borrow.Author.Tests.{leb-true, lt-ltb, le-ltb, ltb-true, ltb-false}
+use Rattle.csl.specs.Number.{isDigit}
 use Rattle.csl.specs.Report.{decimal, decimalIn, lastDigit}
+
+-- a digit is a byte from 48 to 57
+pub digit-range : (b : ℕ) → isDigit b ≡ true → (48 ≤ b) × (b ≤ 57)
+digit-range b h =
+    let p = and-eq-true-iff (leb 48 b) (leb b 57) .0 h in
+    (leb-true 48 b (p .0), leb-true b 57 (p .1))
 
 -- below 10 or not
 pub order : (n : ℕ) → (n < 10) ⊎ (10 ≤ n)
