@@ -217,7 +217,8 @@ decided-verdicts-are-a-table c f v k d =
     let o : Obeys c f (λ s. asNo (v s)) = verdicts-obey c f v k d in (o, throughout c f v (λ s. asNo (v s)) k o)
 
 -- T4. The starred bench values, those of hours with decimals, of the next move and of moves to the own state, of the second listing, of what the
--- moves decide, of until between two times, and `P <= 10000000 U 8 up dead`, of every report that has a backing; and quotients as a second reckoning has them.
+-- moves decide, of until between two times, of moves in any order and their copies, and `P <= 10000000 U 8 up dead`, of every report that has a backing; and
+-- quotients as a second reckoning has them.
 pub starred-bench-values : BenchValues
 starred-bench-values = bench.bench-values
 
