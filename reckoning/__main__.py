@@ -13,8 +13,7 @@ from pathlib import Path
 from .copying import printed_copy
 from .judge import CANNOT_TELL, allowed_ends, judge
 from .refusal import refusal
-
-FILES = ("moves.txt", "labels.txt", "formula.txt")
+from .texts import FILES
 
 
 def read_texts(folder):

@@ -1,9 +1,10 @@
 """The formula text: one line, tokens set apart by one space, read into a tree."""
 
 from dataclasses import dataclass
+from enum import Enum
 
 from .limits import FORMULA_DIGITS, HOUR
-from .texts import LINE_FEED, TRUE_WORD, is_decimals, is_number, is_word
+from .texts import LINE_FEED, TRUE_WORD, ends_in_line_feed, is_decimals, is_number, is_word
 
 COMPARISONS = (b"<", b"<=", b">=", b">")
 
@@ -99,8 +100,22 @@ class P:
 TIMED = {Until.letter: (Until, 1), Between.letter: (Between, 2)}
 
 
+class Wanted(Enum):
+    """What the grammar has next at some token."""
+    STATE_FORMULA = "state formula"
+    COMPARISON = "comparison"
+    THRESHOLD = "threshold"
+    PATH_FORMULA = "path formula"
+    HOURS = "hours"
+    NOTHING = "nothing"
+
+
 class Broken(Exception):
-    """The text breaks the grammar."""
+    """The text breaks the grammar: at token `at`, counted from 0, something else is wanted, or one more token where the text ends."""
+
+    def __init__(self, at, wanted):
+        super().__init__(at, wanted)
+        self.at, self.wanted = at, wanted
 
 
 def read_formula(text):
@@ -108,25 +123,34 @@ def read_formula(text):
 
     The text is within its byte limit, so the readers call each other less deep than Python allows.
     """
-    if not text.endswith(LINE_FEED):
-        return None
-    tokens = text[:-1].split(b" ")
     try:
-        tree, at = state_formula(tokens, 0)
+        return read_tokens(tokens_of(text)) if ends_in_line_feed(text) else None
     except Broken:
         return None
-    return tree if at == len(tokens) else None
 
 
-def token(tokens, at):
+def tokens_of(text):
+    """The tokens of a formula text, whose line feed may be missing; spaces too many set empty ones apart."""
+    return text.removesuffix(LINE_FEED).split(b" ")
+
+
+def read_tokens(tokens):
+    """The tree of a formula, given as tokens."""
+    tree, at = state_formula(tokens, 0)
+    if at < len(tokens):
+        raise Broken(at, Wanted.NOTHING)
+    return tree
+
+
+def token(tokens, at, wanted):
     if at == len(tokens):
-        raise Broken
+        raise Broken(at, wanted)
     return tokens[at]
 
 
 def state_formula(tokens, at):
     """The state formula from token `at` on, and the place after it."""
-    head = token(tokens, at)
+    head = token(tokens, at, Wanted.STATE_FORMULA)
     if head == b"!":
         inner, at = state_formula(tokens, at + 1)
         return Not(inner), at
@@ -137,28 +161,28 @@ def state_formula(tokens, at):
     if head == b"P":
         return bounded(tokens, at + 1)
     if not is_word(head):
-        raise Broken
+        raise Broken(at, Wanted.STATE_FORMULA)
     return (Tt() if head == TRUE_WORD else Label(head)), at + 1
 
 
 def bounded(tokens, at):
     """What follows `P`: a comparison, a threshold and a path formula."""
-    comparison = token(tokens, at)
+    comparison = token(tokens, at, Wanted.COMPARISON)
     if comparison not in COMPARISONS:
-        raise Broken
-    threshold = number(tokens, at + 1)
+        raise Broken(at, Wanted.COMPARISON)
+    threshold = billionths(tokens, at + 1)
     path, at = path_formula(tokens, at + 2)
     return P(comparison, threshold, path), at
 
 
 def path_formula(tokens, at):
     """`X` and a state formula, `U`, hours and two of them, or `V`, hours twice and two of them."""
-    letter = token(tokens, at)
+    letter = token(tokens, at, Wanted.PATH_FORMULA)
     if letter == Next.letter:
         operand, at = state_formula(tokens, at + 1)
         return Next(operand), at
     if letter not in TIMED:
-        raise Broken
+        raise Broken(at, Wanted.PATH_FORMULA)
     kind, count = TIMED[letter]
     times = [hours(tokens, at + 1 + place) for place in range(count)]
     first, at = state_formula(tokens, at + 1 + count)
@@ -166,18 +190,19 @@ def path_formula(tokens, at):
     return kind(*times, first, second), at
 
 
-def number(tokens, at):
-    part = token(tokens, at)
+def billionths(tokens, at):
+    """A threshold."""
+    part = token(tokens, at, Wanted.THRESHOLD)
     if not is_number(part, FORMULA_DIGITS):
-        raise Broken
+        raise Broken(at, Wanted.THRESHOLD)
     return int(part)
 
 
 def hours(tokens, at):
     """Hours, in hundredths: a number, and perhaps a point and decimals."""
-    whole, point, decimals = token(tokens, at).partition(b".")
+    whole, point, decimals = token(tokens, at, Wanted.HOURS).partition(b".")
     if not is_number(whole, FORMULA_DIGITS) or point and not is_decimals(decimals):
-        raise Broken
+        raise Broken(at, Wanted.HOURS)
     return int(whole) * HOUR + int(decimals.ljust(2, b"0"))
 
 
@@ -189,13 +214,16 @@ def hours_text(hundredths):
 
 def spelled(tree):
     """The text of a formula, without its line feed."""
+    return b" ".join([state_head(tree), *map(spelled, operands(tree))])
+
+
+def state_head(tree):
+    """What stands before the operands of a state formula; all of it where it has none."""
     if isinstance(tree, (Tt, Label)):
         return TRUE_WORD if isinstance(tree, Tt) else tree.name
     if isinstance(tree, P):
-        head = b"P %s %d %s" % (tree.comparison, tree.threshold, path_head(tree.path))
-    else:
-        head = b"!" if isinstance(tree, Not) else b"&"
-    return b" ".join([head, *map(spelled, operands(tree))])
+        return b"P %s %d %s" % (tree.comparison, tree.threshold, path_head(tree.path))
+    return b"!" if isinstance(tree, Not) else b"&"
 
 
 def path_head(path):

@@ -4,6 +4,8 @@ import re
 
 from .limits import MOST_LETTERS, MOST_NAMES, SHEET_DIGITS
 
+FILES = MOVES_FILE, LABELS_FILE, FORMULA_FILE = "moves.txt", "labels.txt", "formula.txt"
+
 LINE_FEED = b"\n"
 COMMA = b","
 

@@ -1,0 +1,138 @@
+"""What is wrong with a token that should begin a state formula or a path formula, or that is left over behind the formula."""
+import re
+
+from ..formula import COMPARISONS, TIMED, Between, Next, Until
+from ..texts import is_word
+from .amounts import amount, as_hours
+from .names import name_fault
+from .numbers import ASKED, GLUED, threshold_meant
+from .words import first, quoted
+
+# Operators of other notations, and how what they say is written here.
+AND, OR, NOT, IMPLIES = "a and b is & a b", "a or b is ! & ! a ! b", "not a is ! a", "a implies b is ! & a ! b"
+EVENTUALLY, ALWAYS = "a within 8 hours is U 8 tt a", "a all through 8 hours, with at least 0.99, is P <= 10000000 U 8 tt ! a"
+SIGNS = {b"|": OR, b"||": OR, b"\\/": OR, b"->": IMPLIES, b"=>": IMPLIES, b"&&": AND, b"/\\": AND, b"^": AND, b"~": NOT,
+         b"F": EVENTUALLY, b"G": ALWAYS}
+WORDS = {b"and": AND, b"or": OR, b"not": NOT, b"implies": IMPLIES}
+WITHIN = re.compile(rb"([FG])[<>=\[].*")
+LETTER = re.compile(rb"[A-Za-z]")
+BRACKETS = re.compile(rb"[\[\](){}]")
+STUCK = re.compile(rb"([!&]+)([a-z]*|P)")
+STUCK_BOUND = re.compile(rb"P(<=|>=|<|>)([0-9.,%]+)")
+STUCK_TIMES = re.compile(rb"[UV](?:<=?)?\[?([0-9.]+)(?:,([0-9.]+))?\]?")
+LETTERS = *TIMED, Next.letter
+EXAMPLE = "P >= 990000000 U 8 up dead"
+BEGINNINGS = "a label, tt, !, & or P"
+BEHIND_P = f"stands behind P, a comparison and a threshold, as in {EXAMPLE}"
+
+
+def state_fault(tokens, at):
+    """What is wrong with a token that begins no state formula."""
+    if amount(tokens[at]) is not None:
+        return number_fault(tokens, at)
+    return first((sign, stuck_bound, bracket, stuck, path_letter, comparison, capital, no_formula), tokens[at])
+
+
+def number_fault(tokens, at):
+    """A number where a state formula is wanted: often a time too many."""
+    part, before = tokens[at], tokens[:at]
+    if before[-1:] == [Next.letter]:
+        return f"{quoted(part)} is a number: X has no hours, as in P <= 10000000 X dead"
+    if before[-2:-1] == [Until.letter]:
+        times = before[-1].decode(), as_hours(part) or part.decode()
+        return f"{quoted(part)} is a second time, U has one: from {times[0]} to {times[1]} hours is V {times[0]} {times[1]}"
+    if before[-3:-2] == [Between.letter]:
+        return f"{quoted(part)} is a third time, V has two, as in V 2 8.25 up dead"
+    return f"{quoted(part)} is a number: {BEGINNINGS} is wanted"
+
+
+def sign(part):
+    within = WITHIN.fullmatch(part)
+    words = SIGNS.get(within[1] if within else part)
+    return f"{quoted(part)} is no operator: {words}" if words else ""
+
+
+def stuck_bound(part):
+    """`P`, a comparison and perhaps a threshold with no space between them."""
+    found = STUCK_BOUND.fullmatch(part)
+    if found:
+        return f"{quoted(part)} lacks spaces: write P {found[1].decode()} {threshold_meant(found[2])}"
+    if part == b"P" + ASKED:
+        return f"{quoted(part)} is no operator: every report shows the probability, write P >= 0 to ask for no threshold"
+    return f"{quoted(part)} lacks a space: write P {part[1:].decode()}" if part[:1] == b"P" and part[1:] in COMPARISONS else ""
+
+
+def bracket(part):
+    return f"{quoted(part)} has a bracket: operators stand before what they join and need none, as in & up ! dead" if BRACKETS.search(part) else ""
+
+
+def stuck(part):
+    """Operators with no space behind them."""
+    found = STUCK.fullmatch(part)
+    return f"{quoted(part)} lacks a space: write {' '.join([*found[1].decode(), found[2].decode()]).strip()}" if found else ""
+
+
+def path_letter(part):
+    return f"{quoted(part)} {BEHIND_P}" if part in LETTERS or STUCK_TIMES.fullmatch(part) else ""
+
+
+def comparison(part):
+    return f"{quoted(part)} stands behind P, as in {EXAMPLE}" if part in COMPARISONS or GLUED.fullmatch(part) else ""
+
+
+def capital(part):
+    return f"{quoted(part)} is no operator: there are !, &, and P with U, V or X" if len(part) == 1 and part.isupper() else ""
+
+
+def no_formula(part):
+    if LETTER.search(part):
+        return name_fault(part)
+    return f"{quoted(part)} is no operator and no label: {BEGINNINGS} is wanted"
+
+
+def path_fault(tokens, at):
+    """What is wrong with a token behind a threshold."""
+    return first((sign, path_bracket, stuck_times, small_letter, no_path), tokens[at])
+
+
+def path_bracket(part):
+    return f"{quoted(part)} has a bracket: after the threshold comes U, V or X without brackets, as in {EXAMPLE}" if part[:1] in (b"[", b"(") else ""
+
+
+def stuck_times(part):
+    """A letter and its times with no space between them, perhaps with PRISM's signs."""
+    found = STUCK_TIMES.fullmatch(part)
+    times = [as_hours(time) for time in found.groups() if time] if found else []
+    if not times or None in times:
+        return ""
+    return f"{quoted(part)} is not written so: write {' '.join(['U' if len(times) == 1 else 'V', *times])}"
+
+
+def small_letter(part):
+    return f"{quoted(part)} is a small letter: write {part.upper().decode()}" if part.upper() in LETTERS else ""
+
+
+def no_path(part):
+    return f"{quoted(part)} stands where U, V or X is wanted, before its hours and operands, as in {EXAMPLE}"
+
+
+def left_over(tokens, at):
+    """What is said of a token behind the end of the formula."""
+    part, before = tokens[at], tokens[at - 1]
+    if part == b"&" or part in SIGNS or part in WORDS:
+        return between(tokens, at)
+    if before in WORDS:
+        return f"{quoted(part)} is left over, since {quoted(before)} is taken for a label: {WORDS[before]}"
+    if before == b"p" and comparison(part):
+        return f"{quoted(part)} is left over, since {quoted(before)} is taken for a label: write P, a capital"
+    return first((path_letter, bracket), part) or (f"{quoted(part)} is left over, the formula ends with token {at}, {quoted(before)}: "
+                                                   "two formulas are joined by & before both, as in & up hot")
+
+
+def between(tokens, at):
+    """What is said of an operator between what it joins."""
+    part, beside = tokens[at], [tokens[at - 1], *tokens[at + 1:at + 2]]
+    cure = SIGNS.get(part) or WORDS.get(part, AND)
+    if cure == AND and len(beside) == 2 and all(map(is_word, beside)):
+        cure = f"write & {beside[0].decode()} {beside[1].decode()}"
+    return f"{quoted(part)} stands between what it joins, and belongs before it: {cure}"
