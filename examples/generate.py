@@ -84,6 +84,21 @@ def small():
                  FORMULA.decode().rstrip("\n"), str)
 
 
+def two_gauges(formula):
+    """Two pressure gauges on one cable: one of them suffices, one at a time is restarted, and a cut of the cable ends it all. Its states are how many
+    gauges are good, and the cut. Surges, which take both gauges, stand at the foot, one of them beside the fault of a gauge."""
+    gauges, cut = restarted(2, 400, 100_000), "cut"
+    told = {2: "both gauges good", 1: "one gauge good, the other out", 0: "both gauges out", cut: "cable cut"}
+    moves = {**gauges.moves, **{(good, cut): 100 for good in gauges.states}}
+    labels = {
+        "reading": lambda s: s in (2, 1),
+        "both": lambda s: s == 2,
+        "lost": lambda s: s in (0, cut),
+        "cut": lambda s: s == cut,
+    }
+    return Sheet(list(told), moves, labels, formula, told.get, [(good, 0, 20) for good in (2, 1)])
+
+
 def gun_parts():
     """The states, moves and labels of a perforating gun string: collar locator and gamma tool give the depth, and a shock can take both."""
     good, drifting, failed, up, down = "good", "drifting", "failed", "up", "down"
@@ -217,6 +232,7 @@ def walk(depth, left, formula):
 
 SHEETS = {
     "small": small(),
+    "two-gauges": two_gauges("P <= 10000000 U 72 tt lost"),
     "gun-string": gun_string("P <= 10000000 U 8.25 power lost"),
     "first-fault": first_fault(),
     "after-workshop": after_workshop("P <= 10000000 U 8.25 power lost"),
