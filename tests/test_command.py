@@ -1,24 +1,30 @@
-"""The command `./sheetcheck`: what it prints and what it says, of a report and of a copy, the samples in the README, and the README's picture."""
+"""The command `./sheetcheck`: what it prints, what it says and how it ends, of a report, a copy and a new sheet."""
+import os
 import re
+import shutil
 import subprocess
 import tempfile
 import unittest
+from pathlib import Path
 
 from reckoning.copying import BY_SHEET, copied
+from reckoning.faults import faults
 from reckoning.limits import HOUR, MOST_HUNDREDTHS, MOST_LEVELS, MOST_MOVES, MOST_RATE
-from reckoning.refusal import BY_TEXTS, refusal
+from reckoning.refusal import BY_TEXTS, Job, refusal
 from reckoning.report import refused
 from reckoning.sheets import LABELS, MOVES, REPORT, moves_text
 from tests.edges import levels, load, loads, moves, small, typed
-from tests.places import ROOT
+from tests.places import EXAMPLES, ROOT
 from tests.program import put
 
-SAMPLE = re.compile(r"^    \$ \./sheetcheck (.+)\n((?:    .+\n)+)", re.MULTILINE)
-DRAWN = re.compile(r"^    (tools/curve .*) --out (docs/\S+\.svg)$", re.MULTILINE)
+COMMAND = ROOT / "sheetcheck"
+START = EXAMPLES / "two-gauges"
+ANSWERED, TURNED_BACK, WRONG_USE, NOT_WHOLE = range(4)         # the status that the command ends with
 SAID = re.compile(r"sheetcheck: refused, since [a-z].*\.\n")
+NOT_WRITTEN = "sheetcheck: the answer could not be written whole\n"
 
 # For each number that three texts can be refused with, the example that document 01 gives beside it, and one for 16; 7 and 8 are never given.
-TURNED_BACK = {
+REFUSED = {
     1: (MOVES, LABELS, b""),
     2: typed(b"0,1"),
     3: (MOVES, b"state,up,up\n0,1,0\n1,0,1\n", b"tt\n"),
@@ -35,10 +41,10 @@ TURNED_BACK = {
 }
 
 
-def command(*words):
-    """What the command prints and what it says, given a folder, perhaps behind `--copy`."""
-    done = subprocess.run([ROOT / "sheetcheck", *words], cwd=ROOT, capture_output=True, check=True)
-    return done.stdout, done.stderr.decode()
+def command(*words, **more):
+    """What the command prints, what it says, and its status."""
+    done = subprocess.run([COMMAND, *words], cwd=ROOT, stdout=more.pop("stdout", subprocess.PIPE), stderr=subprocess.PIPE, **more)
+    return done.stdout, done.stderr.decode(), done.returncode
 
 
 def command_on(job, *words):
@@ -55,68 +61,172 @@ def setUpModule():
 
 class Command(unittest.TestCase):
     def test_says_what_each_number_means(self):
+        """And, by the second reckoning, where the fault is."""
         said = {}
-        for number, job in TURNED_BACK.items():
+        for number, job in REFUSED.items():
             with self.subTest(number):
                 self.assertEqual(refusal(*job), number)
-                printed, said[number] = command_on(job)
-                self.assertEqual(printed, refused(number))
+                printed, told, status = command_on(job)
+                self.assertEqual((printed, status), (refused(number), TURNED_BACK))
+                said[number], *places = told.splitlines(keepends=True)
                 self.assertRegex(said[number], SAID)
+                self.assertEqual(places, [place + "\n" for place in faults(Job(*job))])
         self.assertEqual(set(said), BY_TEXTS)
         self.assertEqual(len(set(said.values())), len(said))
 
     def test_says_nothing_of_a_report(self):
-        printed, said = command("examples/small")
-        self.assertEqual((printed, said), (REPORT, ""))
+        self.assertEqual(command("examples/small"), (REPORT, "", ANSWERED))
 
     def test_copies(self):
         """The moves of a folder, pairs rising and none twice; it needs no formula."""
         typed_moves = moves_text([(1, 1, 4), (0, 1, 60), (1, 0, 5), (0, 1, 40)])
+        clean = b"from,to,rate\n0,1,100\n1,0,5\n1,1,4\n"
         for formula in (b"tt\n", b"", b"gas\n"):
-            self.assertEqual(command_on((typed_moves, LABELS, formula), "--copy"), (b"from,to,rate\n0,1,100\n1,0,5\n1,1,4\n", ""))
-        self.assertEqual(command("--copy", "examples/small"), (MOVES, ""))
+            self.assertEqual(command_on((typed_moves, LABELS, formula), "--copy"), (clean, "", ANSWERED))
+        self.assertEqual(command("--copy", "examples/small"), (MOVES, "", ANSWERED))
 
     def test_says_of_a_copy_what_each_number_means(self):
         """In the words that it has for a job."""
         for number in BY_SHEET:
-            moves, labels, _ = TURNED_BACK[number] if number > 1 else (b"", LABELS, b"tt\n")
+            moves, labels, _ = REFUSED[number] if number > 1 else (b"", LABELS, b"tt\n")
             with self.subTest(number):
                 self.assertEqual(copied(moves, labels), number)
-                of_job = command_on((moves, labels, b"tt\n"))
-                self.assertEqual(of_job[0], refused(number))
-                self.assertEqual(command_on((moves, labels, b"tt\n"), "--copy"), (of_job[0], of_job[1].replace("sheetcheck: ", "sheetcopy: ")))
+                printed, said, status = command_on((moves, labels, b"tt\n"))
+                self.assertEqual((printed, status), (refused(number), TURNED_BACK))
+                self.assertEqual(command_on((moves, labels, b"tt\n"), "--copy"), (printed, said.replace("sheetcheck: ", "sheetcopy: "), status))
 
+    def test_goes_by_what_the_folder_is_called(self):
+        """Names that a shell takes for something else."""
+        with tempfile.TemporaryDirectory() as outer:
+            for name in ("-", "two words", "*", "-e"):
+                put((MOVES, LABELS, b"P >= 1000000000 U 0 up dead\n"), Path(outer) / name)
+                done = subprocess.run([COMMAND, name], cwd=outer, capture_output=True, env={**os.environ, "CDPATH": str(ROOT)})
+                self.assertEqual((done.stdout, done.stderr, done.returncode), (REPORT, b"", ANSWERED), name)
+
+
+class WrongUse(unittest.TestCase):
     def test_wants_one_folder(self):
+        usage, _, status = command("--help")
+        self.assertEqual(status, ANSWERED)
+        self.assertTrue(usage.startswith(b"usage: ./sheetcheck FOLDER "))
         for arguments in ([], ["examples/small", "docs"], ["--copy"], ["--copy", "examples/small", "docs"], ["--clean", "examples/small"],
-                          ["examples/small", "--copy"]):
-            done = subprocess.run([ROOT / "sheetcheck", *arguments], cwd=ROOT, capture_output=True)
-            self.assertEqual((done.returncode, done.stdout), (2, b""), arguments)
-            self.assertEqual(done.stderr, b"usage: ./sheetcheck [--copy] FOLDER\n")
+                          ["examples/small", "--copy"], ["--new"], ["--html"], ["--html", "--copy", "examples/small"]):
+            self.assertEqual(command(*arguments), (b"", usage.decode(), WRONG_USE), arguments)
+
+    def test_tells_at_once_of_a_folder_that_is_not_there(self):
+        """Before anything is built: here nothing is, and whatever calls for a build is noted."""
+        with tempfile.TemporaryDirectory() as outer:
+            bare = Bare(outer)
+            for words in (["nowhere"], ["--copy", "nowhere"], ["--html", "nowhere"], ["sheetcheck"]):
+                self.assertEqual(bare.run(*words), (b"", f"sheetcheck: {words[-1]} is not a folder\n", WRONG_USE), words)
+            self.assertFalse(bare.asked_to_build())
+
+    def test_says_that_nothing_was_built(self):
+        with tempfile.TemporaryDirectory() as outer:
+            bare = Bare(outer)
+            printed, said, status = bare.run("crates")
+            self.assertTrue(bare.asked_to_build())
+            self.assertEqual((printed, status), (b"", NOT_WHOLE))
+            self.assertIn("no program was built", said)
 
 
-class Readme(unittest.TestCase):
-    text = (ROOT / "README.md").read_text()
+class Bare:
+    """The command in a repository with nothing built, where `rt` notes that it was called and fails."""
 
-    def test_samples(self):
-        samples = SAMPLE.findall(self.text)
-        self.assertGreaterEqual(len(samples), 3)
-        for words, shown in samples:
-            with self.subTest(words):
-                printed, said = command(*words.split())
-                self.assertEqual(re.sub("(?m)^    ", "", shown), printed.decode() + said)
+    def __init__(self, outer):
+        self.root, self.noted = Path(outer) / "bare", Path(outer) / "noted"
+        (self.root / "crates").mkdir(parents=True)
+        (self.root / "crates.txt").touch()
+        shutil.copy(COMMAND, self.root)
+        builder = Path(outer) / "commands" / "rt"
+        builder.parent.mkdir()
+        builder.write_text(f"#!/bin/sh\ntouch '{self.noted}'\nexit 1\n")
+        builder.chmod(0o755)
+        self.path = f"{builder.parent}:{os.environ['PATH']}"
 
-    def test_picture(self):
-        """The picture is what the command above it draws."""
-        line, picture = DRAWN.search(self.text).groups()
-        drawn = subprocess.run(["bash", "-c", line], cwd=ROOT, capture_output=True, text=True, check=True).stdout
-        self.assertEqual(drawn, (ROOT / picture).read_text())
-        self.assertIn(f"]({picture})", self.text)
+    def run(self, *words):
+        done = subprocess.run(["./sheetcheck", *words], cwd=self.root, capture_output=True, env={**os.environ, "PATH": self.path})
+        return done.stdout, done.stderr.decode(), done.returncode
 
-    def test_names_what_is_there(self):
-        """Each file, folder or command that the README names in quotes is in the repository."""
-        for path in re.findall(r"`((?:crates|docs|examples|library|bench|tests|tools)/[^ `*]*)", self.text):
-            with self.subTest(path):
-                self.assertTrue((ROOT / path).exists())
+    def asked_to_build(self):
+        return self.noted.exists()
+
+
+class Unwritten(unittest.TestCase):
+    """An answer that cannot be written whole is told from one that was."""
+
+    def test_full_disk(self):
+        for words in (["examples/small"], ["--copy", "examples/small"], ["--html", "examples/small"], ["docs/broken-sheet"]):
+            with open("/dev/full", "wb") as full:
+                self.assertEqual(command(*words, stdout=full)[1:], (NOT_WRITTEN, NOT_WHOLE), words)
+
+    def test_closed_output(self):
+        done = subprocess.run(["bash", "-c", "./sheetcheck examples/small >&-"], cwd=ROOT, capture_output=True, text=True)
+        self.assertEqual((done.stderr, done.returncode), (NOT_WRITTEN, NOT_WHOLE))
+
+    def test_closed_pipe(self):
+        reader, writer = os.pipe()
+        os.close(reader)
+        self.assertEqual(command("examples/small", stdout=writer)[1:], (NOT_WRITTEN, NOT_WHOLE))
+        os.close(writer)
+
+    def test_program_that_breaks_off(self):
+        """With too little stack it is killed before it prints."""
+        limited = f"ulimit -s 64; exec {COMMAND} examples/redundant-string"
+        done = subprocess.run(["bash", "-c", limited], cwd=ROOT, capture_output=True)
+        self.assertEqual((done.stdout, done.returncode), (b"", NOT_WHOLE))
+
+
+class NewSheet(unittest.TestCase):
+    def test_is_a_copy_of_the_example(self):
+        with tempfile.TemporaryDirectory() as outer:
+            for folder in (Path(outer) / "mine", Path(outer) / "jobs" / "two words"):
+                printed, said, status = command("--new", folder)
+                self.assertEqual((said, status), ("", ANSWERED))
+                self.assertIn(str(folder).encode(), printed)
+                self.assertEqual({path.name: path.read_bytes() for path in folder.iterdir()},
+                                 {path.name: path.read_bytes() for path in START.iterdir()})
+                self.assertEqual(command(folder), command(START))
+
+    def test_overwrites_nothing(self):
+        """An empty folder may be there, anything else not."""
+        with tempfile.TemporaryDirectory() as outer:
+            empty, full, text = (Path(outer) / name for name in ("empty", "full", "text"))
+            empty.mkdir()
+            self.assertEqual(command("--new", empty)[2], ANSWERED)
+            put((MOVES, LABELS, b"tt\n"), full)
+            text.write_text("notes")
+            for taken in (empty, full, text):
+                before = sorted((path.name, path.read_bytes()) for path in Path(outer).rglob("*") if path.is_file())
+                printed, said, status = command("--new", taken)
+                self.assertEqual((printed, status), (b"", WRONG_USE))
+                self.assertIn("is there already", said)
+                self.assertEqual(sorted((path.name, path.read_bytes()) for path in Path(outer).rglob("*") if path.is_file()), before)
+
+
+class WithoutPython(unittest.TestCase):
+    """Reports and refusals need no Python; only the place of the fault is missing then, and there is no page."""
+
+    @classmethod
+    def setUpClass(cls):
+        cls.outer = tempfile.TemporaryDirectory()
+        cls.addClassCleanup(cls.outer.cleanup)
+        for name in ("bash", "cat", "dirname", "find"):
+            (Path(cls.outer.name) / name).symlink_to(shutil.which(name))
+
+    def command(self, *words):
+        return command(*words, env={"PATH": self.outer.name})
+
+    def test_report(self):
+        self.assertEqual(self.command("examples/small"), (REPORT, "", ANSWERED))
+
+    def test_refusal(self):
+        printed, said, status = self.command("docs/broken-sheet")
+        self.assertEqual((printed, status), (refused(2), TURNED_BACK))
+        self.assertRegex(said, re.compile(SAID.pattern + r"\Z"))
+
+    def test_page(self):
+        self.assertEqual(self.command("--html", "examples/small"), (b"", "sheetcheck: --html needs Python 3\n", NOT_WHOLE))
 
 
 if __name__ == "__main__":

@@ -7,8 +7,6 @@ import sys
 import tempfile
 import unittest
 from contextlib import redirect_stderr, redirect_stdout
-from importlib.machinery import SourceFileLoader
-from importlib.util import module_from_spec, spec_from_loader
 from pathlib import Path
 from xml.etree import ElementTree
 
@@ -21,22 +19,12 @@ from reckoning.tests.chains import row, texts
 from tests.places import EXAMPLES, FOLDERS, ROOT
 from tests.program import put
 from tests.standin import answer
+from tests.tools import TOOLS, loaded
 
-TOOLS = ROOT / "tools"
 STANDIN = shlex.join(["env", f"PYTHONPATH={ROOT}", sys.executable, "-m", "tests.standin"])
 SVG = "{http://www.w3.org/2000/svg}"
 PIXEL = 0.02                # coordinates are rounded to a hundredth
-
-
-def loaded():
-    """The command as a module; its name has no ending."""
-    sys.path.insert(0, str(TOOLS))
-    module = module_from_spec(spec_from_loader("curve", SourceFileLoader("curve", str(TOOLS / "curve"))))
-    module.__loader__.exec_module(module)
-    return module
-
-
-COMMAND = loaded()
+COMMAND = loaded("curve")
 
 
 def curve(*arguments, run=STANDIN):

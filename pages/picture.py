@@ -1,4 +1,5 @@
 """A picture of two ends against time, as SVG text."""
+import re
 from collections import namedtuple
 from decimal import ROUND_CEILING, Decimal
 from html import escape
@@ -15,6 +16,9 @@ Axis = namedtuple("Axis", "low high start end ticks")
 WIDTH, HEIGHT = 860, 580
 LEFT, RIGHT, TOP, BOTTOM = 110, 830, 132, 490       # of the plot
 LEGEND = 106
+NAME_PLACE = 26             # of the name of the upright axis, from the left
+DIGIT = 9.6                 # how wide a digit at a tick is at most
+HEADLESS = 84               # where a picture without its lines of words begins
 MOST_TICKS = 9
 OF_AN_HOUR = Decimal("0.01"), Decimal("0.05"), Decimal("0.25")      # steps of ticks below an hour
 MOST_MARKS = 60             # with more points the lines go without marks
@@ -37,20 +41,70 @@ circle.lower { fill: #123f8f; stroke: none; }
 """
 
 
+def style(within=""):
+    """The rules of a picture, or of those in one place of a page alone, which `within` selects."""
+    return re.sub(r"(?m)^(?=[a-z.])|(?<=, )(?=\.)", within, STYLE)
+
+
 def draw(title, state, formula, points, threshold):
     """The picture of points in the order of their hours, with three lines of words; `threshold` is in billionths."""
     x, y = axes(points, threshold)
     parts = [
-        f'<svg xmlns="http://www.w3.org/2000/svg" width="{WIDTH}" height="{HEIGHT}" viewBox="0 0 {WIDTH} {HEIGHT}">',
-        f"<title>{escape(title)}, {escape(state)}</title>", f"<desc>{escape(formula)}</desc>", f"<style>{STYLE}</style>",
+        f'<svg xmlns="http://www.w3.org/2000/svg" width="{WIDTH}" height="{HEIGHT}" viewBox="{view(y)}">',
+        f"<title>{escape(title)}, {escape(state)}</title>", f"<desc>{escape(formula)}</desc>", f"<style>{style()}</style>",
+        *([f'<rect x="{left(y):.0f}" width="{-left(y):.0f}" height="{HEIGHT}" fill="#fff"/>'] if left(y) else []),
         f'<rect width="{WIDTH}" height="{HEIGHT}" fill="#fff"/>',
         text(LEFT, 32, cut(title, TITLE_LETTERS), "title"), text(LEFT, 56, cut(state, LINE_LETTERS)),
         text(LEFT, 79, cut(formula, LINE_LETTERS), "formula"),
-        *legend(threshold, threshold <= y.high), *frame(x, y), *curves(x, y, points)]
-    if threshold <= y.high:
-        parts.append(line(LEFT, at(y, threshold), RIGHT, at(y, threshold), "threshold"))
-    parts.append(text(RIGHT, BOTTOM + 72, apart(points), "note", "end"))
+        *plot(x, y, points, threshold)]
     return "\n".join(parts) + "\n</svg>\n"
+
+
+def draw_for_page(title, described, points, threshold, asked):
+    """The same for a page that has these words elsewhere and the rules in its style, with a line at the hours that are asked about."""
+    x, y = axes(points, threshold)
+    parts = [
+        f'<svg class="curve" role="img" aria-labelledby="curve-title curve-desc" viewBox="{view(y, HEADLESS)}">',
+        f'<title id="curve-title">{escape(title)}</title>', f'<desc id="curve-desc">{escape(described)}</desc>',
+        *asked_line(at(x, asked), plain(asked)), *plot(x, y, points, threshold)]
+    return "\n".join(parts) + "\n</svg>\n"
+
+
+def plot(x, y, points, threshold):
+    """All of a picture below its lines of words."""
+    yield from legend(threshold, threshold <= y.high)
+    yield from frame(x, y)
+    yield from curves(x, y, points)
+    if threshold <= y.high:
+        yield line(LEFT, at(y, threshold), RIGHT, at(y, threshold), "threshold")
+    yield text(RIGHT, BOTTOM + 72, apart(points), "note", "end")
+
+
+def view(y, top=0):
+    """What is seen of a picture."""
+    return f"{left(y):.0f} {top} {WIDTH - left(y):.0f} {HEIGHT - top}"
+
+
+def left(y):
+    """Where a picture begins: further left where the words at the ticks are long."""
+    return min(0, name_place(y) - NAME_PLACE)
+
+
+def name_place(y):
+    """Where the name of the upright axis stands: left of the words at its ticks."""
+    return min(NAME_PLACE, LEFT - 10 - DIGIT * max(map(len, tick_words(y))) - 16)
+
+
+def tick_words(y):
+    """Decimals at the ticks of the upright axis, as many behind the point at each."""
+    decimals = max(len(plain(value / BILLION).partition(".")[2]) for value in y.ticks)
+    return [f"{value / BILLION:.{decimals}f}" if value else "0" for value in y.ticks]
+
+
+def asked_line(place, hours):
+    """The hours of the question, told below the plot."""
+    yield line(place, TOP, place, BOTTOM, "asked")
+    yield text(LEFT, BOTTOM + 72, f"the dotted line is at the hours asked about, {hours}", "note")
 
 
 def apart(points):
@@ -98,12 +152,11 @@ def at(axis, value):
 
 def frame(x, y):
     """The two axes with ticks, grid lines and names."""
-    decimals = max(len(plain(value / BILLION).partition(".")[2]) for value in y.ticks)
-    for value in y.ticks:
+    for value, words in zip(y.ticks, tick_words(y)):
         height = at(y, value)
         yield line(LEFT, height, RIGHT, height, "grid")
         yield line(LEFT - 6, height, LEFT, height, "tick")
-        yield text(LEFT - 10, height + 5, f"{value / BILLION:.{decimals}f}" if value else "0", "y", "end")
+        yield text(LEFT - 10, height + 5, words, "y", "end")
     for value in x.ticks:
         place = at(x, value)
         yield line(place, BOTTOM, place, BOTTOM + 6, "tick")
@@ -111,7 +164,7 @@ def frame(x, y):
     yield line(LEFT, BOTTOM, RIGHT, BOTTOM, "axis")
     yield line(LEFT, TOP, LEFT, BOTTOM, "axis")
     yield text((LEFT + RIGHT) / 2, BOTTOM + 48, "hours", anchor="middle")
-    yield f'<g transform="translate(26 {(TOP + BOTTOM) / 2}) rotate(-90)">{text(0, 0, "probability", anchor="middle")}</g>'
+    yield f'<g transform="translate({name_place(y):.0f} {(TOP + BOTTOM) / 2}) rotate(-90)">{text(0, 0, "probability", anchor="middle")}</g>'
 
 
 def curves(x, y, points):

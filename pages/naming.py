@@ -1,0 +1,26 @@
+"""What the states of a sheet are called: the lines of its states.txt, which the program does not read and which may hold anything."""
+import re
+
+STATES = "states.txt"
+NUMBERED = re.compile(r"([0-9]{1,9}): *(.*)")
+
+
+def printable(words):
+    """Words on one line, with a mark in the place of every letter that does not print."""
+    return "".join(" " if letter.isspace() else letter if letter.isprintable() else "\N{REPLACEMENT CHARACTER}" for letter in words).strip()
+
+
+def state_names(sheet):
+    """The names by state numbers. A line is of the state whose number and a colon it begins with, else of the one whose place it has."""
+    try:
+        lines = (sheet / STATES).read_bytes().decode(errors="replace").split("\n")
+    except OSError:
+        return {}
+    numbered = [(place, line, NUMBERED.fullmatch(line.rstrip("\r"))) for place, line in enumerate(lines)]
+    named = [(int(found[1]), found[2]) if found else (place, line) for place, line, found in numbered]
+    return {state: printable(words) for state, words in named if printable(words)}
+
+
+def told_state(names, state):
+    """A state by its number and, where it has one, its name."""
+    return f"state {state}: {names[state]}" if state in names else f"state {state}"
