@@ -5,14 +5,15 @@ from decimal import Decimal
 from reckoning.formula import hours_text
 from reckoning.limits import BILLION, HOUR, MOST_HUNDREDTHS, RATE_HUNDREDTHS, most_hundredths
 from .asking import ask, listings, rows
-from .over_time import at_hours
+from .over_time import at_hours, is_at_one_hour
 from .picture import Point
 
+BEGINNING = 0               # the state where things begin, by custom
 STEPS = 24                  # of the curve, in equal parts; the hours of the question are one point more where they are none of these
 
-# The state that is drawn, None where no state is worth it, with its points and the hours asked about; the worst state and, where its interval
-# reaches 0 or 1 at every time, that end in billionths.
-Course = namedtuple("Course", "state points asked worst reached")
+# The worst state that is worth a curve, None where no state is, with its points; the worst of all and, where its interval reaches 0 or 1 at every
+# time, that end in billionths; and the points of the state where things begin, none where it is drawn already or is not worth it.
+Course = namedtuple("Course", "state points worst reached beginning")
 
 
 def span(path, rate):
@@ -20,7 +21,7 @@ def span(path, rate):
 
     A question about 0 hours has its curve over the mean time until the fastest state is left.
     """
-    begun = path.phases[0] if len(path.phases) == 2 else 0
+    begun = path.phases[0] if len(path.phases) == 2 and not is_at_one_hour(path) else 0
     wanted = 2 * path.times[-1] or RATE_HUNDREDTHS // rate
     return begun, min(wanted, begun + most_hundredths(rate), MOST_HUNDREDTHS)
 
@@ -50,8 +51,9 @@ def reached(points):
 
 
 def course(command, sheet, until, order):
-    """The curve of the first of these states, the worst first, whose chance is told from 0 and from 1 at some time."""
+    """The curve of the first of these states, the worst first, whose chance is told from 0 and from 1 at some time, and that of the beginning."""
     answered = answers(command, sheet.texts, until, sheet.chain.q)
-    state = next((state for state in order if reached(points_of(answered, state)) is None), None)
-    points = points_of(answered, state) if state is not None else []
-    return Course(state, points, Decimal(until.path.times[-1]) / HOUR, order[0], reached(points_of(answered, order[0])))
+    points = {state: points_of(answered, state) for state in order}
+    state = next((state for state in order if reached(points[state]) is None), None)
+    beginning = points[BEGINNING] if state != BEGINNING and reached(points[BEGINNING]) is None else []
+    return Course(state, points.get(state, []), order[0], reached(points[order[0]]), beginning)

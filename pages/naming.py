@@ -1,5 +1,6 @@
 """What the states of a sheet are called: the lines of its states.txt, which the program does not read and which may hold anything."""
 import re
+from collections import defaultdict
 
 STATES = "states.txt"
 NUMBERED = re.compile(r"([0-9]{1,9}): *(.*)")
@@ -11,14 +12,18 @@ def printable(words):
 
 
 def state_names(sheet):
-    """The names by state numbers. A line is of the state whose number and a colon it begins with, else of the one whose place it has."""
+    """The names by state numbers. A line is of the state whose number and a colon it begins with, else of the one whose place it has. Where
+    several are of one state they are all shown, since one of them is a slip."""
     try:
         lines = (sheet / STATES).read_bytes().decode(errors="replace").split("\n")
     except OSError:
         return {}
     numbered = [(place, line, NUMBERED.fullmatch(line.rstrip("\r"))) for place, line in enumerate(lines)]
-    named = [(int(found[1]), found[2]) if found else (place, line) for place, line, found in numbered]
-    return {state: printable(words) for state, words in named if printable(words)}
+    names = defaultdict(list)
+    for place, line, found in numbered:
+        state, words = (int(found[1]), found[2]) if found else (place, line)
+        names[state] += filter(None, [printable(words)])
+    return {state: " / ".join(found) for state, found in names.items() if found}
 
 
 def told_state(names, state):

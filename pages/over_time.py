@@ -1,11 +1,19 @@
-"""A sheet's question put for other hours: those of an until are replaced, of a `V` the second time; those further in stay."""
-from reckoning.formula import spelled
+"""A sheet's question put for other hours: those of an until are replaced; of a `V` the second time, and both where it asks about one hour."""
+from reckoning.formula import Between, spelled
+
+FIRST_TIME = 4              # the word that the times of a `P` begin with: they stand behind its comparison, its threshold and a letter
+
+
+def is_at_one_hour(path):
+    """Whether a path formula asks how things are at one hour."""
+    return isinstance(path, Between) and path.earliest == path.latest
 
 
 def put(until, hours):
-    """The text of a `P` with another word for the last of its times, which stand behind its comparison, its threshold and a letter."""
-    words = spelled(until).decode().split(" ")
-    words[3 + len(until.path.times)] = hours
+    """The text of a `P` with another word for its hours."""
+    words, times = spelled(until).decode().split(" "), len(until.path.times)
+    kept = 0 if is_at_one_hour(until.path) else times - 1
+    words[FIRST_TIME + kept:FIRST_TIME + times] = [hours] * (times - kept)
     return " ".join(words)
 
 

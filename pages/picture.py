@@ -1,7 +1,7 @@
 """A picture of two ends against time, as SVG text."""
 import re
 from collections import namedtuple
-from decimal import ROUND_CEILING, Decimal
+from decimal import ROUND_CEILING, ROUND_FLOOR, Decimal
 from html import escape
 from itertools import chain
 
@@ -60,12 +60,13 @@ def draw(title, state, formula, points, threshold):
     return "\n".join(parts) + "\n</svg>\n"
 
 
-def draw_for_page(title, described, points, threshold, asked):
-    """The same for a page that has these words elsewhere and the rules in its style, with a line at the hours that are asked about."""
+def draw_for_page(name, title, described, points, threshold, asked):
+    """The same for a page that has these words elsewhere and the rules in its style, with a line at the hours that are asked about. On the page
+    the picture has a name of its own."""
     x, y = axes(points, threshold)
     parts = [
-        f'<svg class="curve" role="img" aria-labelledby="curve-title curve-desc" viewBox="{view(y, HEADLESS)}">',
-        f'<title id="curve-title">{escape(title)}</title>', f'<desc id="curve-desc">{escape(described)}</desc>',
+        f'<svg class="curve" role="img" aria-labelledby="{name}-title {name}-desc" viewBox="{view(y, HEADLESS)}">',
+        f'<title id="{name}-title">{escape(title)}</title>', f'<desc id="{name}-desc">{escape(described)}</desc>',
         *asked_line(at(x, asked), plain(asked)), *plot(x, y, points, threshold)]
     return "\n".join(parts) + "\n</svg>\n"
 
@@ -119,11 +120,17 @@ def axes(points, threshold):
     greatest = Decimal(max(point.upper for point in points))
     if threshold <= FAR * greatest or greatest == 0:
         greatest = max(greatest, Decimal(threshold))
+    return Axis(first, last, LEFT, RIGHT, ticks(first, last, tick_step(last - first, OF_AN_HOUR))), upright(points, threshold, greatest)
+
+
+def upright(points, threshold, greatest):
+    """The axis of probabilities, up to the greatest of them. It begins at 0, but for probabilities that are all more than half of it."""
     greatest = greatest or Decimal(BILLION)
-    step = tick_step(greatest)
-    top = (greatest / step).to_integral_value(ROUND_CEILING) * step
-    return (Axis(first, last, LEFT, RIGHT, ticks(first, last, tick_step(last - first, OF_AN_HOUR))),
-            Axis(Decimal(0), top, BOTTOM, TOP, ticks(Decimal(0), top, step)))
+    least = min(Decimal(threshold), *(Decimal(point.lower) for point in points))
+    low = least if least < greatest < 2 * least else Decimal(0)
+    step = tick_step(greatest - low)
+    bottom, top = (low / step).to_integral_value(ROUND_FLOOR) * step, (greatest / step).to_integral_value(ROUND_CEILING) * step
+    return Axis(bottom, top, BOTTOM, TOP, ticks(bottom, top, step))
 
 
 def steps():
@@ -164,7 +171,8 @@ def frame(x, y):
     yield line(LEFT, BOTTOM, RIGHT, BOTTOM, "axis")
     yield line(LEFT, TOP, LEFT, BOTTOM, "axis")
     yield text((LEFT + RIGHT) / 2, BOTTOM + 48, "hours", anchor="middle")
-    yield f'<g transform="translate({name_place(y):.0f} {(TOP + BOTTOM) / 2}) rotate(-90)">{text(0, 0, "probability", anchor="middle")}</g>'
+    name = f"probability, from {plain(y.low / BILLION)} on" if y.low else "probability"
+    yield f'<g transform="translate({name_place(y):.0f} {(TOP + BOTTOM) / 2}) rotate(-90)">{text(0, 0, name, anchor="middle")}</g>'
 
 
 def curves(x, y, points):

@@ -1,12 +1,14 @@
 """The parts of the page of a sheet: the question, the answer, the states, the curve, the graph and what is proved of them; or the refusal."""
 import re
+from decimal import Decimal
 from html import escape
 
 from reckoning.__main__ import FILES
 from reckoning.formula import Next, P, bounds
+from reckoning.limits import HOUR
 from reckoning.verdict import NO, UNDECIDED, YES
 from .asking import rows
-from .course import course, hours_to_ask
+from .course import BEGINNING, course
 from .decimals import chance, decimal
 from .graph import MOST_DRAWN, draw_graph, has_rates
 from .markup import coded, ending, figure, listed, name_of, page, section, sentence, told, verdict
@@ -24,7 +26,7 @@ def report_page(sheet, command, second):
     found = worst_first(sheet.tree, rows(second))
     return page(f"{sheet.name}: report", [
         *top(sheet), *question_part(sheet), *answer_part(sheet, found), *states_part(sheet, found),
-        *section("curve", "The worst state over time", curve_or_why_not(sheet, command, found)),
+        *section("curve", "Over time", curve_or_why_not(sheet, command, found)),
         *section("graph", "The states and their moves", graph_or_why_not(sheet, found)), *proof_part(sheet)])
 
 
@@ -36,7 +38,8 @@ def refusal_page(sheet, number, said, faults):
         *([f"<p>{sentence(reason[0])}</p>"] if reason else []), *(["<h2>Where the fault is</h2>", listed(faults)] if faults else []),
         "<h2>What is proved of this page</h2>",
         "<p>The number is the proved program's. What it means is told by the program and where the fault is by the second reckoning; neither "
-        "sentence is proved. A sheet that is refused has no report. Section 8 of docs/MANUAL.md has the cure of each number.</p>", f"<p>{sizes(sheet)}</p>"])
+        "sentence is proved. A sheet that is refused has no report. Section 8 of docs/MANUAL.md has the cure of each number.</p>",
+        f"<p>{sizes(sheet)}</p>"])
 
 
 def top(sheet):
@@ -57,12 +60,12 @@ def question_part(sheet):
 def answer_part(sheet, found):
     """How many states say what, the worst of them, and state 0."""
     count = {word: sum(row.verdict == word for row in found) for word in (YES, NO, UNDECIDED)}
-    first = next(row for row in found if row.state == 0)
+    first = next(row for row in found if row.state == BEGINNING)
     return section("answer", "The answer", [
         '<ul class="counts">' + "".join(f'<li class="{word}"><b>{count[word]}</b> {word}</li>' for word in count) + "</ul>",
         f"<p>{count_words(len(found), count)}</p>",
-        f"<p>The worst is {told(sheet, found[0].state)}{chance_words(sheet, found[0])}: {ending(found[0].verdict)}{others_words(found)}</p>",
-        f"<p>By custom things begin in {told(sheet, 0)}{chance_words(sheet, first)}: {ending(first.verdict)}</p>"])
+        f"<p>Things begin, by custom, in {told(sheet, BEGINNING)}{chance_words(sheet, first)}: {ending(first.verdict)}</p>",
+        f"<p>The worst is {told(sheet, found[0].state)}{chance_words(sheet, found[0])}: {ending(found[0].verdict)}{others_words(found)}</p>"])
 
 
 def count_words(states, count):
@@ -113,12 +116,14 @@ def curve_or_why_not(sheet, command, found):
         return ["<p>There is no curve, since the question is about the next move, whenever it comes, and has no hours.</p>"]
     if not sheet.chain.q:
         return ["<p>There is no curve, since the sheet has no moves to other states and nothing changes with time.</p>"]
-    if len(hours_to_ask(asked[0].path, sheet.chain.q)) == 1:
-        return ["<p>There is no curve, since the limits leave no hours but those of the question.</p>"]
     drawn = course(command, sheet, asked[0], [row.state for row in found])
     if drawn.state is None:
         return ["<p>There is no curve, since the interval of each state reaches 0 at every time that was tried, or 1 at every one.</p>"]
-    return curve_words(sheet, asked[0], drawn) + [curve_drawing(sheet, asked[0], drawn)]
+    worst = [curve_words(sheet, asked[0], drawn), curve_drawing(sheet, asked[0], "worst", drawn.state, drawn.points)]
+    if not drawn.beginning:
+        return worst
+    begun = f"<p>And this is {told(sheet, BEGINNING)}, where things begin.</p>"
+    return [*worst, begun, curve_drawing(sheet, asked[0], "beginning", BEGINNING, drawn.beginning)]
 
 
 def curve_words(sheet, until, drawn):
@@ -126,20 +131,21 @@ def curve_words(sheet, until, drawn):
     alone = "" if isinstance(sheet.tree, P) else ", a part of the question that is put to the program by itself"
     words = f"The curve is of <code>{escape(put(until, 't'), quote=False)}</code> over the hours t{alone}. "
     if drawn.state == drawn.worst:
-        return [f"<p>{words}Drawn is the worst state, {told(sheet, drawn.state)}.</p>"]
-    return [f"<p>{words}The worst state, {told(sheet, drawn.worst)}, has an interval that reaches {decimal(drawn.reached)} at every time, so its "
-            f"curve would say nothing. Drawn is the worst of the others, {told(sheet, drawn.state)}.</p>"]
+        return f"<p>{words}Drawn is the worst state, {told(sheet, drawn.state)}.</p>"
+    return (f"<p>{words}The worst state, {told(sheet, drawn.worst)}, has an interval that reaches {decimal(drawn.reached)} at every time, so its "
+            f"curve would say nothing. Drawn is the worst of the others, {told(sheet, drawn.state)}.</p>")
 
 
-def curve_drawing(sheet, until, drawn):
-    title = f"The chance of {told_state(sheet.names, drawn.state)} over time"
-    first, last = drawn.points[0], drawn.points[-1]
+def curve_drawing(sheet, until, name, state, points):
+    title = f"The chance of {told_state(sheet.names, state)} over time"
+    first, last = points[0], points[-1]
     chances = [chance(point.lower, point.upper) for point in (first, last)]
     about = (f"From {first.hours} to {last.hours} hours the chance goes from {' to '.join(chances)}; the question asks about "
              f"{hours_words(until.path.times[-1])}.")
-    drawing = draw_for_page(title, about, drawn.points, until.threshold, drawn.asked)
-    note = f"The {len(drawn.points)} points are answers of the proved program; the lines between them are drawn."
-    return figure(drawing, "Curve over time", note)
+    asked = Decimal(until.path.times[-1]) / HOUR
+    drawing = draw_for_page(name, title, about, points, until.threshold, asked)
+    note = f"The {len(points)} points are answers of the proved program; the lines between them are drawn."
+    return figure(drawing, title, note)
 
 
 def graph_or_why_not(sheet, found):

@@ -44,12 +44,12 @@ class Telling:
         return self.clause(tree)
 
     def bounded(self, node):
-        return chance_words(node.comparison, node.threshold) + self.path(node.path)
+        return chance_words(node.comparison, node.threshold) + self.path(node.path, (node.comparison, node.threshold) in AT_EXTREMES)
 
-    def path(self, path):
+    def path(self, path, at_any_time=False):
         if isinstance(path, Next):
             return "a next move comes" if path.operand == Tt() else NEXT + self.clause(path.operand)
-        told = f"{time_words(path)} {self.within(path.second)}"
+        told = f"{time_words(path, at_any_time)} {self.within(path.second)}"
         if path.first == Tt() or not path.times[-1]:
             return told
         return f"{told}, and until then {self.within(path.first)}"
@@ -153,13 +153,13 @@ def chance_words(comparison, threshold):
     return told + ": "
 
 
-def time_words(path):
-    """When the second operand is to hold. With the first time 0 a `V` is a `U`."""
+def time_words(path, at_any_time):
+    """When the second operand is to hold. With the first time 0 a `V` is a `U`, and what is possible or certain then is so within any time."""
     earliest, latest = path.times if isinstance(path, Between) else (0, *path.times)
     if not latest:
         return "within 0 hours, which is at once,"
     if not earliest:
-        return f"within {hours_words(latest)}"
+        return f"within {hours_words(latest)}" + (", as within any other time above 0," if at_any_time else "")
     if earliest == latest:
         return f"at {hours_words(latest)} exactly"
     return f"at some time from {number_words(earliest)} to {hours_words(latest)}"

@@ -116,14 +116,17 @@ class Pages(unittest.TestCase):
                 self.assertTrue(all(within), [word for word, fits in zip(words, within) if not fits])
 
     def test_curve(self):
-        """No words over others, and all of them within the drawing."""
-        for name in ("gun-string", "not-before-settled", "small", "unlikely"):
+        """No words over others, and all of them within their drawing."""
+        for name, curves in (("gun-string", 2), ("not-before-settled", 2), ("small", 1), ("unlikely", 1)):
             with self.subTest(name):
                 browser.open(self.files[name], DESK)
-                words, (drawing,) = browser.value(BOXES + "('.curve text')"), browser.value(BOXES + "('svg.curve')")
-                self.assertGreater(len(words), 10)
+                words, drawings = browser.value(BOXES + "('.curve text')"), browser.value(BOXES + "('svg.curve')")
+                self.assertEqual(len(drawings), curves)
+                self.assertGreater(len(words), 10 * curves)
                 self.assertEqual(self.overlapping(words, words), [])
-                self.assertEqual([word for word in words if not (drawing[0] <= word[0] and word[2] <= drawing[2] + NEAR)], [])
+                within = [any(box[0] <= word[0] and word[2] <= box[2] + NEAR and box[1] <= word[1] and word[3] <= box[3] for box in drawings)
+                          for word in words]
+                self.assertTrue(all(within), [word for word, fits in zip(words, within) if not fits])
 
     def test_drawings_stay_readable(self):
         """Letters of 12 and 15 in a drawing are not made much smaller on a phone, where the drawing moves by itself."""

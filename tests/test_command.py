@@ -103,6 +103,13 @@ class Command(unittest.TestCase):
                 done = subprocess.run([COMMAND, name], cwd=outer, capture_output=True, env={**os.environ, "CDPATH": str(ROOT)})
                 self.assertEqual((done.stdout, done.stderr, done.returncode), (REPORT, b"", ANSWERED), name)
 
+    def test_is_found_through_a_link(self):
+        with tempfile.TemporaryDirectory() as outer:
+            link = Path(outer) / "check"
+            link.symlink_to(COMMAND)
+            done = subprocess.run([link, EXAMPLES / "small"], cwd=outer, capture_output=True)
+            self.assertEqual((done.stdout, done.stderr, done.returncode, os.listdir(outer)), (REPORT, b"", ANSWERED, ["check"]))
+
 
 class WrongUse(unittest.TestCase):
     def test_wants_one_folder(self):
@@ -110,8 +117,9 @@ class WrongUse(unittest.TestCase):
         self.assertEqual(status, ANSWERED)
         self.assertTrue(usage.startswith(b"usage: ./sheetcheck FOLDER "))
         for arguments in ([], ["examples/small", "docs"], ["--copy"], ["--copy", "examples/small", "docs"], ["--clean", "examples/small"],
-                          ["examples/small", "--copy"], ["--new"], ["--html"], ["--html", "--copy", "examples/small"]):
+                          ["examples/small", "--copy"], ["--new"], ["--html"], ["--html", "--copy", "examples/small"], [""]):
             self.assertEqual(command(*arguments), (b"", usage.decode(), WRONG_USE), arguments)
+        self.assertEqual(command("-h"), (usage, "", ANSWERED))
 
     def test_tells_at_once_of_a_folder_that_is_not_there(self):
         """Before anything is built: here nothing is, and whatever calls for a build is noted."""
@@ -156,7 +164,7 @@ class Unwritten(unittest.TestCase):
     """An answer that cannot be written whole is told from one that was."""
 
     def test_full_disk(self):
-        for words in (["examples/small"], ["--copy", "examples/small"], ["--html", "examples/small"], ["docs/broken-sheet"]):
+        for words in (["examples/small"], ["--copy", "examples/small"], ["--html", "examples/small"], ["docs/broken-sheet"], ["--help"]):
             with open("/dev/full", "wb") as full:
                 self.assertEqual(command(*words, stdout=full)[1:], (NOT_WRITTEN, NOT_WHOLE), words)
 
@@ -165,9 +173,11 @@ class Unwritten(unittest.TestCase):
         self.assertEqual((done.stderr, done.returncode), (NOT_WRITTEN, NOT_WHOLE))
 
     def test_closed_pipe(self):
+        """Whoever closes it has read enough, and is told nothing."""
         reader, writer = os.pipe()
         os.close(reader)
-        self.assertEqual(command("examples/small", stdout=writer)[1:], (NOT_WRITTEN, NOT_WHOLE))
+        for words in (["examples/small"], ["--html", "examples/small"], ["--help"]):
+            self.assertEqual(command(*words, stdout=writer)[1:], ("", NOT_WHOLE))
         os.close(writer)
 
     def test_program_that_breaks_off(self):
@@ -211,7 +221,7 @@ class WithoutPython(unittest.TestCase):
     def setUpClass(cls):
         cls.outer = tempfile.TemporaryDirectory()
         cls.addClassCleanup(cls.outer.cleanup)
-        for name in ("bash", "cat", "dirname", "find"):
+        for name in ("bash", "cat", "dirname", "find", "readlink"):
             (Path(cls.outer.name) / name).symlink_to(shutil.which(name))
 
     def command(self, *words):

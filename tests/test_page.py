@@ -36,10 +36,10 @@ WORDS = {
     "P >= 5 U 0 a b": "With probability at least 0.000000005: within 0 hours, which is at once, `b` holds.",
     "P <= 120000000 X ! collar": "With probability at most 0.12: the next move, whenever it comes, leads to a state where `collar` does not hold.",
     "P > 0 X tt": "It can happen at all that a next move comes.",
-    "P > 0 U 8 a b": "It can happen at all that within 8 hours `b` holds, and until then `a` holds.",
-    "P <= 0 U 8 tt b": "It cannot happen that within 8 hours `b` holds.",
-    "P >= 1000000000 U 8 tt b": "It is certain that within 8 hours `b` holds.",
-    "P < 1000000000 U 8 tt b": "It is not certain that within 8 hours `b` holds.",
+    "P > 0 U 8 a b": "It can happen at all that within 8 hours, as within any other time above 0, `b` holds, and until then `a` holds.",
+    "P <= 0 U 8 tt b": "It cannot happen that within 8 hours, as within any other time above 0, `b` holds.",
+    "P >= 1000000000 U 8 tt b": "It is certain that within 8 hours, as within any other time above 0, `b` holds.",
+    "P < 1000000000 U 8 tt b": "It is not certain that within 8 hours, as within any other time above 0, `b` holds.",
     "P >= 0 X a": "With probability at least 0, which is always so: the next move, whenever it comes, leads to a state where `a` holds.",
     "P > 1000000000 X a": "With probability more than 1, which is never so: the next move, whenever it comes, leads to a state where `a` holds.",
     "tt": "`tt` holds.",
@@ -64,7 +64,7 @@ NESTED = {
         "(1) holds and (2) does not hold.",
         "(1) stands for: it can happen at all that the next move, whenever it comes, leads to a state where `a` holds.",
         "(2) stands for: with probability less than 0.000000005: the next move, whenever it comes, leads to a state where (3) holds.",
-        "(3) stands for: it cannot happen that within 1 hour `b` holds."],
+        "(3) stands for: it cannot happen that within 1 hour, as within any other time above 0, `b` holds."],
 }
 
 
@@ -203,31 +203,49 @@ class Rows(unittest.TestCase):
 
 
 class Curve(unittest.TestCase):
-    def points(self, page):
-        told = [POINT.fullmatch(words) for words in page.words("title")]
-        return [point.groups() for point in told if point]
+    def curves(self, page):
+        """The points of each curve on a page; a curve begins where the hours do not rise."""
+        found = []
+        for hours, *row in (point.groups() for point in map(POINT.fullmatch, page.words("title")) if point):
+            if not found or float(hours) <= float(found[-1][-1][0]):
+                found.append([])
+            found[-1].append([hours, *row])
+        return found
 
     def test_points_are_answers(self):
-        """Of the worst state, or of the worst whose interval does not reach 0 or 1 at every time."""
-        for name, formula, state, last, which in (("gun-string", b"P <= 10000000 U %s power lost\n", 6, "16.5", "of the others"),
-                                                  ("not-before-settled", b"P >= 990000000 V 2 %s power & collar gamma\n", 2, "16.5", "of the others"),
-                                                  ("polling-3", b"P >= 900000000 U %s tt pollone\n", 35, "106.13", "state")):
+        """Of the worst state, or of the worst whose interval does not reach 0 or 1 at every time; and of state 0, where that is worth a curve."""
+        for name, formula, states, last, which in (
+                ("gun-string", b"P <= 10000000 U %s power lost\n", (6, 0), "16.5", "of the others"),
+                ("not-before-settled", b"P >= 990000000 V 2 %s power & collar gamma\n", (2, 0), "16.5", "of the others"),
+                ("polling-3", b"P >= 900000000 U %s tt pollone\n", (35,), "106.13", "state")):
             with self.subTest(name):
-                points = self.points(example(name))
-                self.assertIn(len(points), (25, 26))
-                self.assertEqual(points[-1][0], last)
-                for hours, *row in points[::12] + points[-1:]:
-                    printed = run((*read_texts(EXAMPLES / name)[:2], formula % hours.encode())).decode()
-                    lower, upper, _, verdict = next(found[1:] for found in LISTED.findall(printed) if int(found[0]) == state)
-                    self.assertEqual(row, [lower, upper, verdict])
-                self.assertIn(f"Drawn is the worst {which}, state {state} (", " ".join(example(name).words("p")))
+                curves = self.curves(example(name))
+                self.assertEqual(len(curves), len(states))
+                for state, points in zip(states, curves):
+                    self.assertIn(len(points), (25, 26))
+                    self.assertEqual(points[-1][0], last)
+                    for hours, *row in points[::12] + points[-1:]:
+                        printed = run((*read_texts(EXAMPLES / name)[:2], formula % hours.encode())).decode()
+                        lower, upper, _, verdict = next(found[1:] for found in LISTED.findall(printed) if int(found[0]) == state)
+                        self.assertEqual(row, [lower, upper, verdict])
+                self.assertIn(f"Drawn is the worst {which}, state {states[0]} (", " ".join(example(name).words("p")))
+
+    def test_one_hour(self):
+        """A question about how things are at one hour has a curve over that hour, and an axis that begins below the least of its chances."""
+        page = Reader(asked(MOVES, LABELS, b"P >= 990000000 V 8 8 tt up\n"))
+        _, *last, _, verdict = LISTED.search(run((MOVES, LABELS, b"P >= 990000000 V 16 16 tt up\n")).decode()).groups()
+        self.assertIn("P >= 990000000 V t t tt up", page.words("code"))
+        [points] = self.curves(page)
+        self.assertEqual([points[0], points[-1]], [["0", "1000000000", "1000000000", "yes"], ["16", *last, verdict]])
+        self.assertTrue(any(words == "probability, from 0.99 on" for words in page.words("text")), page.words("text"))
 
     def test_hours(self):
-        """From no time, or the first of two, to twice the question's, within 8,760 hours and the load limit of each phase."""
+        """From no time, or the first of two unless they are one hour, to twice the question's, within 8,760 hours and the load limit of each phase."""
         for typed, rate, first, last in (("U 8.25", 500, 0, 1650), ("U 0", 500, 0, 200_000), ("U 1", MOST_RATE, 0, 100),
                                          ("U 8760", 1, 0, MOST_HUNDREDTHS), ("V 2 8.25", 500, 200, 1650), ("V 0 8.25", 500, 0, 1650),
                                          ("V 1 2", MOST_RATE, 100, 200),
-                                         ("V 1 1", MOST_RATE, 100, 200), ("V 8760 8760", 1, MOST_HUNDREDTHS, MOST_HUNDREDTHS), ("U 0.01", 5, 0, 2)):
+                                         ("V 1 1", MOST_RATE, 0, 100), ("V 72 72", 5, 0, 14_400), ("V 8760 8760", 1, 0, MOST_HUNDREDTHS),
+                                         ("V 0 0", 500, 0, 200_000), ("U 0", MOST_RATE, 0, 1), ("U 0.01", 5, 0, 2)):
             with self.subTest(typed, rate=rate):
                 path = read_formula(f"P < 5 {typed} tt a\n".encode()).path
                 hours = hours_to_ask(path, rate)
@@ -238,7 +256,6 @@ class Curve(unittest.TestCase):
     def test_no_curve(self):
         for job, told in (((MOVES, LABELS, b"P < 5 X dead\n"), "has no hours"), ((MOVES, LABELS, b"& up ! dead\n"), "not about a probability"),
                           ((NO_MOVES, LABELS, b"P < 5 U 8 up dead\n"), "nothing changes with time"),
-                          ((MOVES, LABELS, b"P < 5 V 8760 8760 up dead\n"), "no hours but those of the question"),
                           ((MOVES, LABELS, b"P < 5 U 8 tt ! tt\n"), "reaches 0 at every time")):
             with self.subTest(told):
                 page = Reader(asked(*job))
