@@ -1,4 +1,5 @@
 """tools/fault as a command, and the places that it names: they are there, and nothing before them is refused with the same number."""
+import os
 import random
 import re
 import resource
@@ -8,6 +9,7 @@ import unittest
 from pathlib import Path
 
 from reckoning.faults import Copy, faults, number_of
+from reckoning.faults.words import quoted
 from reckoning.formula import Broken, read_tokens, tokens_of
 from reckoning.limits import MOST_MOVES
 from reckoning.refusal import Job, refusal
@@ -20,7 +22,7 @@ from tests.places import FOLDERS, ROOT
 from tests.program import put
 
 RANDOM = 3_000
-SECONDS = 0.5               # of the processor, which is several times what the command takes
+SECONDS = 2                 # of the processor, which is ten times what the command takes
 SENTENCE = re.compile(r"(moves|labels|formula)\.txt(?:, line (?P<line>\d+)(?:, field (?P<field>\d+))?|, token (?P<token>\d+))?: \S.*[^.:, ]")
 
 
@@ -180,6 +182,16 @@ class Files(unittest.TestCase):
         (self.folder / LABELS_FILE).unlink()
         self.says(labels, words=("--copy", 1))
         self.says(labels, formula)
+
+    def test_no_sheet(self):
+        """Of a folder that is no sheet's it is told once."""
+        for name in FILES:
+            (self.folder / name).unlink()
+        self.says(self.no_sheet(*FILES))
+        self.says(self.no_sheet(MOVES_FILE, LABELS_FILE), words=("--copy", 1))
+
+    def no_sheet(self, *names):
+        return f"{quoted(os.fsencode(self.folder))} has no sheet in it: {', '.join(names)} are not there"
 
     def test_another_name(self):
         for name in ("Formula.txt", "formula.txt.txt", "formula.csv", "FORMULA", "formulas.txt"):

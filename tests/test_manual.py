@@ -8,6 +8,7 @@ from reckoning import limits
 from reckoning.__main__ import FILES
 from reckoning.copying import SHORT_COPY
 from reckoning.faults import faults
+from reckoning.faults.prism import as_here
 from reckoning.formula import COMPARISONS, read_formula
 from reckoning.refusal import BY_TEXTS, SHORT, Job, refusal
 from reckoning.report import refused
@@ -47,6 +48,7 @@ LIMITS = {
     "levels of the formula": (limits.MOST_LEVELS, "levels"),
     "hours times the greatest sum of rates out of a state to others (section 6)": (limits.MOST_RATE_HUNDREDTHS // limits.HOUR, "load by one"),
 }
+RECIPES = "question", "PRISM", "`formula.txt`", "chance at 0", "yes at"
 UNITS = {"minute": Fraction(1, 60), "hour": 1, "day": 24}           # in hours
 MEANINGS = {"f": "reading", "g": "lost", "p": "10000000", "s": "24", "t": "72"}
 
@@ -144,11 +146,20 @@ class Formulas(unittest.TestCase):
             self.assertEqual(read_formula(b"P < 1 U %s tt tt\n" % typed) is not None, good)
 
     def test_recipes(self):
-        found = table(TEXT, "question", "PRISM", "`formula.txt`", "chance at 0", "yes at")
+        found = table(TEXT, *RECIPES)
         self.assertGreater(len(found), 15)
         for question, _, *answer in found:
             with self.subTest(question):
                 self.assertEqual(*recipe(question, *answer))
+
+    def test_prism(self):
+        """What is offered for PRISM's formula of a recipe has the same verdicts as the recipe, and mostly the same text."""
+        found = [(as_here(code(prism).encode()), code(formula)) for _, prism, formula, *_ in table(TEXT, *RECIPES)]
+        offered = [pair for pair in found if pair[0]]
+        self.assertGreater(len(offered), 10)
+        self.assertGreater(sum(here == formula for here, formula in offered), len(offered) / 2)
+        for here, formula in offered:
+            self.assertEqual([row.verdict for row in rows(here)], [row.verdict for row in rows(formula)], formula)
 
     def test_any_time(self):
         """Whether a thing can happen at all does not depend on the hours."""

@@ -4,7 +4,7 @@ from ..texts import FORMULA_FILE, LINE_FEED, TRUE_WORD
 from .formula import placed, told_token
 from .numbers import BILLIONTHS, EXAMPLE, comparison_fault, hours_fault, hours_next, threshold_fault
 from .operators import BEGINNINGS, left_over, path_fault, state_fault
-from .prism import as_here
+from .prism import as_here, is_unbounded
 from .saving import NO_LINE_FEED, saving_slip
 from .words import counted, first, quoted, told
 
@@ -21,6 +21,7 @@ NEXT = {
     Wanted.THRESHOLD: f"a threshold comes next: {BILLIONTHS}, {EXAMPLE}",
     Wanted.PATH_FORMULA: "U, V or X comes next, as in U 8.25 up dead",
 }
+BOUNDED = "P <= 10000000 U 8 tt dead"
 TO_LETTER = 3               # how far behind its `P` the letter of a path formula stands
 FOREIGN = {sign.encode(): here for sign, here in (
     ("\N{LESS-THAN OR EQUAL TO}", "<="), ("\N{GREATER-THAN OR EQUAL TO}", ">="), ("\N{NOT SIGN}", "!"), ("\N{LOGICAL AND}", "&"))}
@@ -68,6 +69,8 @@ def token_fault(text, tokens, at, wanted):
     whole = as_here(text)
     if whole:
         return f"{quoted(tokens[at])} is PRISM's notation: here the formula is {whole}"
+    if is_unbounded(text):
+        return f"{quoted(tokens[at])} is PRISM's notation, and has no hours: an until needs a time bound here, as in {BOUNDED}"
     return spaces(tokens, at) or first((saving_slip, tab, foreign), tokens[at]) or FAULTS[wanted](tokens, at)
 
 

@@ -69,8 +69,12 @@ def move_count_fault(parts):
     if len(parts) == MOVE_FIELDS:
         return ""
     rate = ungrouped(COMMA.join(parts[MOVE_FIELDS - 1:]))
-    cure = f": write {rate} without thousands commas" if rate else count_cure(parts, MOVE_FIELDS)
+    cure = f": write {rate} without thousands commas" if rate else count_cure(parts, MOVE_FIELDS) or decimal_comma(parts)
     return f"{counted(len(parts), 'field')}, a move has {MOVE_FIELDS}{cure}"
+
+
+def decimal_comma(parts):
+    return ": a rate is whole, without a comma in it" if len(parts) == MOVE_FIELDS + 1 and all(part.isdigit() for part in parts) else ""
 
 
 def state_count_fault(parts, names):

@@ -22,7 +22,8 @@ HOURS_SLIPS = tuple((re.compile(slip), words) for slip, words in (
     (rb"[0-9.]+[eE][-+]?[0-9]+", "has an exponent"),
 ))
 COMPARED = re.compile(rb"<=?(.*)")
-UNIT = re.compile(rb"([0-9.]+)(?:h|hr|hrs|hour|hours)")
+UNITS = (b"h", b"hr", b"hrs", b"hour", b"hours")
+WITH_UNIT = re.compile(rb"([0-9.]+)(?:%s)" % b"|".join(UNITS))
 TWO_TIMES = re.compile(rb"[\[(]?([0-9.]+)[,;-]([0-9.]+)[\])]?")
 
 
@@ -85,7 +86,7 @@ def no_threshold(part):
 
 
 def hours_fault(tokens, at):
-    return two_times(tokens, at) or first((hours_digits, groups, typed_otherwise, compared, with_unit), tokens[at]) or (
+    return two_times(tokens, at) or compared(tokens, at) or first((hours_digits, groups, typed_otherwise, with_unit), tokens[at]) or (
         f"{quoted(tokens[at])} is no number of hours: {hours_next(tokens, at)}")
 
 
@@ -109,14 +110,15 @@ def typed_otherwise(part):
     return f"{quoted(part)} {words}: " + (f"write {meant}" if meant else "hours go to hundredths, as 8.25 does") if words else ""
 
 
-def compared(part):
-    """PRISM has a comparison before the hours."""
-    found = COMPARED.fullmatch(part)
-    return f"{quoted(part)} has a comparison: write the hours alone, {as_hours(found[1]) or 8}" if found else ""
+def compared(tokens, at):
+    """PRISM has a comparison before the hours, perhaps with a space between them."""
+    found = COMPARED.fullmatch(tokens[at])
+    typed = found[1] or b"".join(tokens[at + 1:at + 2]) if found else b""
+    return f"{quoted(tokens[at])} has a comparison: write the hours alone, {as_hours(typed) or 8}" if found else ""
 
 
 def with_unit(part):
-    found = UNIT.fullmatch(part)
+    found = WITH_UNIT.fullmatch(part)
     return f"{quoted(part)} has a unit: write {as_hours(found[1])}" if found and as_hours(found[1]) else ""
 
 

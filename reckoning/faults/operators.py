@@ -5,20 +5,22 @@ from ..formula import COMPARISONS, TIMED, Between, Next, Until
 from ..texts import is_word
 from .amounts import amount, as_hours
 from .names import name_fault
-from .numbers import ASKED, GLUED, threshold_meant
+from .numbers import ASKED, GLUED, UNITS, threshold_meant
 from .words import first, quoted
 
 # Operators of other notations, and how what they say is written here.
 AND, OR, NOT, IMPLIES = "a and b is & a b", "a or b is ! & ! a ! b", "not a is ! a", "a implies b is ! & a ! b"
-EVENTUALLY, ALWAYS = "a within 8 hours is U 8 tt a", "a all through 8 hours, with at least 0.99, is P <= 10000000 U 8 tt ! a"
+EVENTUALLY, ALWAYS = "a within {0} hours is U {0} tt a", "a all through {0} hours is V {0} {0} a tt"
 SIGNS = {b"|": OR, b"||": OR, b"\\/": OR, b"->": IMPLIES, b"=>": IMPLIES, b"&&": AND, b"/\\": AND, b"^": AND, b"~": NOT,
          b"F": EVENTUALLY, b"G": ALWAYS}
 WORDS = {b"and": AND, b"or": OR, b"not": NOT, b"implies": IMPLIES}
-WITHIN = re.compile(rb"([FG])[<>=\[].*")
+WITHIN = re.compile(rb"([FG])[<>=\[]+([0-9.]*).*")
+SOME_HOURS = "8"            # in examples
+NOT_HERE = re.compile(rb"(?:S|R|Pmax|Pmin)(?:[<>=\[{].*)?")
 LETTER = re.compile(rb"[A-Za-z]")
 BRACKETS = re.compile(rb"[\[\](){}]")
-STUCK = re.compile(rb"([!&]+)([a-z]*|P)")
-STUCK_BOUND = re.compile(rb"P(<=|>=|<|>)([0-9.,%]+)")
+STUCK = re.compile(rb"([!&]+)((?:[A-Za-z][!-~]*)?)")
+STUCK_BOUND = re.compile(rb"P(<=|>=|<|>)([^=\[\](){}][^\[\](){}]*)")
 STUCK_TIMES = re.compile(rb"[UV](?:<=?)?\[?([0-9.]+)(?:,([0-9.]+))?\]?")
 LETTERS = *TIMED, Next.letter
 EXAMPLE = "P >= 990000000 U 8 up dead"
@@ -30,7 +32,7 @@ def state_fault(tokens, at):
     """What is wrong with a token that begins no state formula."""
     if amount(tokens[at]) is not None:
         return number_fault(tokens, at)
-    return first((sign, stuck_bound, bracket, stuck, path_letter, comparison, capital, no_formula), tokens[at])
+    return first((sign, not_here, stuck_bound, bracket, stuck, path_letter, comparison, capital, no_formula), tokens[at])
 
 
 def number_fault(tokens, at):
@@ -39,8 +41,8 @@ def number_fault(tokens, at):
     if before[-1:] == [Next.letter]:
         return f"{quoted(part)} is a number: X has no hours, as in P <= 10000000 X dead"
     if before[-2:-1] == [Until.letter]:
-        times = before[-1].decode(), as_hours(part) or part.decode()
-        return f"{quoted(part)} is a second time, U has one: from {times[0]} to {times[1]} hours is V {times[0]} {times[1]}"
+        earlier, later = (as_hours(typed) or typed.decode() for typed in sorted((before[-1], part), key=amount))
+        return f"{quoted(part)} is a second time, U has one: from {earlier} to {later} hours is V {earlier} {later}"
     if before[-3:-2] == [Between.letter]:
         return f"{quoted(part)} is a third time, V has two, as in V 2 8.25 up dead"
     return f"{quoted(part)} is a number: {BEGINNINGS} is wanted"
@@ -48,8 +50,18 @@ def number_fault(tokens, at):
 
 def sign(part):
     within = WITHIN.fullmatch(part)
-    words = SIGNS.get(within[1] if within else part)
+    words = written(within[1] if within else part, as_hours(within[2]) if within else None)
     return f"{quoted(part)} is no operator: {words}" if words else ""
+
+
+def written(part, hours=None):
+    """How what an operator of another notation says is written here, perhaps with its hours; nothing of other parts."""
+    return SIGNS.get(part, "").format(hours or SOME_HOURS)
+
+
+def not_here(part):
+    """What PRISM has and this logic has not."""
+    return f"{quoted(part)} cannot be asked here: there is no long run (S), no reward (R), and one chance P" if NOT_HERE.fullmatch(part) else ""
 
 
 def stuck_bound(part):
@@ -123,6 +135,9 @@ def left_over(tokens, at):
         return between(tokens, at)
     if before in WORDS:
         return f"{quoted(part)} is left over, since {quoted(before)} is taken for a label: {WORDS[before]}"
+    unit = next((place for place in range(1, at) if tokens[place] in UNITS and amount(tokens[place - 1]) is not None), None)
+    if unit:
+        return f"{quoted(part)} is left over, since {quoted(tokens[unit])} (token {unit + 1}) is taken for a label: hours are written without a unit"
     if before == b"p" and comparison(part):
         return f"{quoted(part)} is left over, since {quoted(before)} is taken for a label: write P, a capital"
     return first((path_letter, bracket), part) or (f"{quoted(part)} is left over, the formula ends with token {at}, {quoted(before)}: "
@@ -132,7 +147,7 @@ def left_over(tokens, at):
 def between(tokens, at):
     """What is said of an operator between what it joins."""
     part, beside = tokens[at], [tokens[at - 1], *tokens[at + 1:at + 2]]
-    cure = SIGNS.get(part) or WORDS.get(part, AND)
+    cure = written(part) or WORDS.get(part, AND)
     if cure == AND and len(beside) == 2 and all(map(is_word, beside)):
         cure = f"write & {beside[0].decode()} {beside[1].decode()}"
     return f"{quoted(part)} stands between what it joins, and belongs before it: {cure}"

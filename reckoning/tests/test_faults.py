@@ -15,7 +15,7 @@ NUMBERS = set(range(1, 18)) - {7, 8}
 # What is typed below the first line of moves.txt.
 MOVE_LINES = {
     b"0,1\n": "moves.txt, line 2: 2 fields, a move has 3",
-    b"0,1,500\n0,1,5,6\n": "moves.txt, line 3: 4 fields, a move has 3",
+    b"0,1,500\n0,1,5,6\n": "moves.txt, line 3: 4 fields, a move has 3: a rate is whole, without a comma in it",
     b"0,1,64,000,000\n": "moves.txt, line 2: 5 fields, a move has 3: write 64000000 without thousands commas",
     b"0,1,500,\n": "moves.txt, line 2: 4 fields, a move has 3: take out the comma at the end",
     b"0 1 500\n": 'moves.txt, line 2: "0 1 500" has spaces: fields are set apart by commas',

@@ -71,6 +71,8 @@ LEFT_OVER = {
     b"up | dead\n": 'formula.txt, token 2: "|" stands between what it joins, and belongs before it: a or b is ! & ! a ! b',
     b"up or dead\n": 'formula.txt, token 2: "or" stands between what it joins, and belongs before it: a or b is ! & ! a ! b',
     b"up -> dead\n": 'formula.txt, token 2: "->" stands between what it joins, and belongs before it: a implies b is ! & a ! b',
+    b"P < 5 U 90 hours tt up\n":
+        'formula.txt, token 8: "up" is left over, since "hours" (token 6) is taken for a label: hours are written without a unit',
     b"not up\n": 'formula.txt, token 2: "up" is left over, since "not" is taken for a label: not a is ! a',
     b"and up dead\n": 'formula.txt, token 2: "up" is left over, since "and" is taken for a label: a and b is & a b',
     b"p < 5 U 8 up dead\n": 'formula.txt, token 2: "<" is left over, since "p" is taken for a label: write P, a capital',
@@ -93,9 +95,13 @@ OPERATORS = {
     b"[ up ]\n": 'formula.txt, token 1: "[" has a bracket: operators stand before what they join and need none, as in & up ! dead',
     b"F 8 dead\n": 'formula.txt, token 1: "F" is no operator: a within 8 hours is U 8 tt a',
     b"F<=8 dead\n": 'formula.txt, token 1: "F<=8" is no operator: a within 8 hours is U 8 tt a',
-    b"G 8 up\n": 'formula.txt, token 1: "G" is no operator: a all through 8 hours, with at least 0.99, is P <= 10000000 U 8 tt ! a',
-    b"G<=8 up\n": 'formula.txt, token 1: "G<=8" is no operator: a all through 8 hours, with at least 0.99, is P <= 10000000 U 8 tt ! a',
-    b"S < 5 up\n": 'formula.txt, token 1: "S" is no operator: there are !, &, and P with U, V or X',
+    b"G 8 up\n": 'formula.txt, token 1: "G" is no operator: a all through 8 hours is V 8 8 a tt',
+    b"G<=8 up\n": 'formula.txt, token 1: "G<=8" is no operator: a all through 8 hours is V 8 8 a tt',
+    b"F<=90 dead\n": 'formula.txt, token 1: "F<=90" is no operator: a within 90 hours is U 90 tt a',
+    b"S < 5 up\n": 'formula.txt, token 1: "S" cannot be asked here: there is no long run (S), no reward (R), and one chance P',
+    b"R{1}=? [ F up ]\n": 'formula.txt, token 1: "R{1}=?" cannot be asked here: there is no long run (S), no reward (R), and one chance P',
+    b"Pmax=? [ F<=8 up ]\n": 'formula.txt, token 1: "Pmax=?" cannot be asked here: there is no long run (S), no reward (R), and one chance P',
+    b"Q < 5 up\n": 'formula.txt, token 1: "Q" is no operator: there are !, &, and P with U, V or X',
     b"U 8 up dead\n": 'formula.txt, token 1: "U" stands behind P, a comparison and a threshold, as in P >= 990000000 U 8 up dead',
     b"X dead\n": 'formula.txt, token 1: "X" stands behind P, a comparison and a threshold, as in P >= 990000000 U 8 up dead',
     b"! V 1 8 up dead\n": 'formula.txt, token 2: "V" stands behind P, a comparison and a threshold, as in P >= 990000000 U 8 up dead',
@@ -103,11 +109,13 @@ OPERATORS = {
     b"< 5\n": 'formula.txt, token 1: "<" stands behind P, as in P >= 990000000 U 8 up dead',
     b">=5\n": 'formula.txt, token 1: ">=5" stands behind P, as in P >= 990000000 U 8 up dead',
     b"!up\n": 'formula.txt, token 1: "!up" lacks a space: write ! up',
+    b"!P<=0.01 U 8 up dead\n": 'formula.txt, token 1: "!P<=0.01" lacks a space: write ! P<=0.01',
     b"!!up\n": 'formula.txt, token 1: "!!up" lacks a space: write ! ! up',
     b"&up dead\n": 'formula.txt, token 1: "&up" lacks a space: write & up',
     b"5\n": 'formula.txt, token 1: "5" is a number: a label, tt, !, & or P is wanted',
     b"& up 0.5\n": 'formula.txt, token 3: "0.5" is a number: a label, tt, !, & or P is wanted',
     b"P < 5 U 1 8 up dead\n": 'formula.txt, token 6: "8" is a second time, U has one: from 1 to 8 hours is V 1 8',
+    b"P < 5 U 90 1 up dead\n": 'formula.txt, token 6: "1" is a second time, U has one: from 1 to 90 hours is V 1 90',
     b"P < 5 V 1 8 9 up dead\n": 'formula.txt, token 7: "9" is a third time, V has two, as in V 2 8.25 up dead',
     b"P < 5 X 8 dead\n": 'formula.txt, token 5: "8" is a number: X has no hours, as in P <= 10000000 X dead',
     b"Up\n": 'formula.txt, token 1: "Up" has capitals, a name is 1 to 12 letters a to z: write up',
@@ -121,6 +129,8 @@ OPERATORS = {
     b"%\n": 'formula.txt, token 1: "%" is no operator and no label: a label, tt, !, & or P is wanted',
     b"P>=\n": 'formula.txt, token 1: "P>=" lacks a space: write P >=',
     b"P>=0.99 U 8 up dead\n": 'formula.txt, token 1: "P>=0.99" lacks spaces: write P >= 990000000',
+    b"P<=1e-3 U 8 up dead\n": 'formula.txt, token 1: "P<=1e-3" lacks spaces: write P <= 1000000',
+    b"P<=1/1000 U 8 up dead\n": 'formula.txt, token 1: "P<=1/1000" lacks spaces: write P <= and a threshold in whole billionths',
     b"P<=10000000 U 8 up dead\n": 'formula.txt, token 1: "P<=10000000" lacks spaces: write P <= 10000000',
     b"P=? U 8 up dead\n": 'formula.txt, token 1: "P=?" is no operator: every report shows the probability, write P >= 0 to ask for no threshold',
 }
@@ -176,7 +186,7 @@ PATHS = {
         'formula.txt, token 4: "8" stands where U, V or X is wanted, before its hours and operands, as in P >= 990000000 U 8 up dead',
     b"P < 5 F 8 dead\n": 'formula.txt, token 4: "F" is no operator: a within 8 hours is U 8 tt a',
     b"P < 5 F<=8 dead\n": 'formula.txt, token 4: "F<=8" is no operator: a within 8 hours is U 8 tt a',
-    b"P < 5 G 8 dead\n": 'formula.txt, token 4: "G" is no operator: a all through 8 hours, with at least 0.99, is P <= 10000000 U 8 tt ! a',
+    b"P < 5 G 8 dead\n": 'formula.txt, token 4: "G" is no operator: a all through 8 hours is V 8 8 a tt',
     b"P < 5 u 8 up dead\n": 'formula.txt, token 4: "u" is a small letter: write U',
     b"P < 5 x dead\n": 'formula.txt, token 4: "x" is a small letter: write X',
     b"P < 5 U<=8 up dead\n": 'formula.txt, token 4: "U<=8" is not written so: write U 8',
@@ -210,7 +220,8 @@ HOURS = {
     b"P < 5 U 10000000000 up dead\n": "formula.txt, token 5: 11 digits, hours are at most 8,760",
     b"P < 5 U 10000000000.5 up dead\n": "formula.txt, token 5: 11 digits, hours are at most 8,760",
     b"P < 5 U <=8 up dead\n": 'formula.txt, token 5: "<=8" has a comparison: write the hours alone, 8',
-    b"P < 5 U <= 8 up dead\n": 'formula.txt, token 5: "<=" has a comparison: write the hours alone, 8',
+    b"P < 5 U <= 90 up dead\n": 'formula.txt, token 5: "<=" has a comparison: write the hours alone, 90',
+    b"P < 5 U <= up dead\n": 'formula.txt, token 5: "<=" has a comparison: write the hours alone, 8',
     b"P < 5 U 8h up dead\n": 'formula.txt, token 5: "8h" has a unit: write 8',
     b"P < 5 U 1e3 up dead\n": 'formula.txt, token 5: "1e3" has an exponent: write 1000',
     b"P < 5 U 1e99 up dead\n": 'formula.txt, token 5: "1e99" has an exponent: hours go to hundredths, as 8.25 does',
@@ -230,11 +241,20 @@ PRISM = {
     b"P >= 0.99 [ true U[1,8] !up ]\n": 'formula.txt, token 3: "0.99" is PRISM\'s notation: here the formula is P >= 990000000 V 1 8 tt ! up',
     b"P=? [ F<=8 \"dead\" ]\n": 'formula.txt, token 1: "P=?" is PRISM\'s notation: here the formula is P >= 0 U 8 tt dead',
     b"P>0.5 [ X dead ]\n": 'formula.txt, token 1: "P>0.5" is PRISM\'s notation: here the formula is P > 500000000 X dead',
-    b"P>=0.99 [ G<=8 up ]\n": 'formula.txt, token 1: "P>=0.99" is PRISM\'s notation: here the formula is P <= 10000000 U 8 tt ! up',
+    b"P>=0.99 [ G<=8 up ]\n": 'formula.txt, token 1: "P>=0.99" is PRISM\'s notation: here the formula is P >= 990000000 V 8 8 up tt',
+    b"P>=0.99 [ F=72 up ]\n": 'formula.txt, token 1: "P>=0.99" is PRISM\'s notation: here the formula is P >= 990000000 V 72 72 tt up',
+    b"P>0 [ F dead ]\n": 'formula.txt, token 1: "P>0" is PRISM\'s notation: here the formula is P > 0 U 1 tt dead',
+    b"P<=0 [ up U dead ]\n": 'formula.txt, token 1: "P<=0" is PRISM\'s notation: here the formula is P <= 0 U 1 up dead',
     b"P<0.2 [ G[2, 8.50] !dead ]\n": 'formula.txt, token 1: "P<0.2" is PRISM\'s notation: here the formula is P > 800000000 V 2 8.5 tt dead',
     b"P>=1 [ F<=0.25 dead ]\n": 'formula.txt, token 1: "P>=1" is PRISM\'s notation: here the formula is P >= 1000000000 U 0.25 tt dead',
-    b"P>=0.99 [ up U dead ]\n": 'formula.txt, token 1: "P>=0.99" lacks spaces: write P >= 990000000',
-    b"P=? [ G<=8 up ]\n": 'formula.txt, token 1: "P=?" is no operator: every report shows the probability, write P >= 0 to ask for no threshold',
+    b"P>=0.99 [ up U dead ]\n":
+        'formula.txt, token 1: "P>=0.99" is PRISM\'s notation, and has no hours: an until needs a time bound here, as in P <= 10000000 U 8 tt dead',
+    b"P>0 [ G up ]\n":
+        'formula.txt, token 1: "P>0" is PRISM\'s notation, and has no hours: an until needs a time bound here, as in P <= 10000000 U 8 tt dead',
+    b"P=? [ G<=8 up ]\n": 'formula.txt, token 1: "P=?" is PRISM\'s notation: here the formula is P >= 0 V 8 8 up tt',
+    b"P=? [ G<=0 up ]\n": 'formula.txt, token 1: "P=?" is no operator: every report shows the probability, write P >= 0 to ask for no threshold',
+    b"P=? [ G[2,8] up ]\n":
+        'formula.txt, token 1: "P=?" is no operator: every report shows the probability, write P >= 0 to ask for no threshold',
     b"P>=0.99 [ F<=8.125 dead ]\n": 'formula.txt, token 1: "P>=0.99" lacks spaces: write P >= 990000000',
     b"P>=0.99 [ F<=8 gun|dead ]\n": 'formula.txt, token 1: "P>=0.99" lacks spaces: write P >= 990000000',
 }
@@ -347,7 +367,7 @@ class Formulas(unittest.TestCase):
     def test_what_is_offered_for_prism_is_accepted(self):
         """A formula that is told whole has a report, and is about the labels that were typed."""
         offered = [sentence.partition("here the formula is ")[2].encode() for sentence in PRISM.values()]
-        self.assertEqual(len(list(filter(None, offered))), 7)
+        self.assertEqual(len(list(filter(None, offered))), 11)
         for formula in filter(None, offered):
             self.assertIsInstance(refusal(MOVES, LABELS, formula + b"\n"), Job)
 
