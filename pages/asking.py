@@ -13,6 +13,7 @@ NAMES = HEAD.decode() + "\n"
 PRINTED = re.compile(NAMES + r"|refused\n[0-9]+\n")
 ROW = re.compile(r"(?P<state>[0-9]+),(?P<lower>[0-9]+),(?P<upper>[0-9]+),(?P<depth>[0-9]+),(?P<verdict>[a-z]+)")
 REFUSED = "refused"
+ENDINGS = (0, 1)            # the statuses of an answer: a program has 0, and the command 1 for a refusal
 
 Row = namedtuple("Row", "state lower upper depth verdict")
 
@@ -32,7 +33,7 @@ def ask(command, texts, inside=False):
         except OSError as reason:
             raise Trouble(f"cannot run {shlex.join(command)}: {reason.strerror}") from None
     printed = done.stdout.decode(errors="replace")
-    if not PRINTED.match(printed):
+    if done.returncode not in ENDINGS or not PRINTED.match(printed):
         raise Trouble(f"{shlex.join(command)} printed no report (status {done.returncode})")
     return printed, (done.stderr or b"").decode(errors="replace")
 

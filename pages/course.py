@@ -3,7 +3,7 @@ from collections import namedtuple
 from decimal import Decimal
 
 from reckoning.formula import hours_text
-from reckoning.limits import BILLION, HOUR, MOST_HUNDREDTHS, RATE_HUNDREDTHS, most_hundredths
+from reckoning.limits import BILLION, FORMULA_BYTES, HOUR, MOST_HUNDREDTHS, RATE_HUNDREDTHS, most_hundredths
 from .asking import ask, listings, rows
 from .over_time import at_hours, is_at_one_hour
 from .picture import Point
@@ -33,10 +33,10 @@ def hours_to_ask(path, rate):
 
 
 def answers(command, texts, until, rate):
-    """For each of the hours the rows of the report, by state numbers."""
-    asked = hours_to_ask(until.path, rate)
-    printed = [ask(command, at_hours(texts, until, hours_text(hundredths).decode()), inside=True)[0] for hundredths in asked]
-    return {Decimal(hundredths) / HOUR: rows(listings(text)[0]) for hundredths, text in zip(asked, printed)}
+    """For each of the hours the rows of the report, by state numbers; hours with which the formula would be too long are left out."""
+    jobs = {hundredths: at_hours(texts, until, hours_text(hundredths).decode()) for hundredths in hours_to_ask(until.path, rate)}
+    printed = {hundredths: ask(command, job, inside=True)[0] for hundredths, job in jobs.items() if len(job[2]) <= FORMULA_BYTES}
+    return {Decimal(hundredths) / HOUR: rows(listings(text)[0]) for hundredths, text in printed.items()}
 
 
 def points_of(answered, state):

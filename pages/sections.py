@@ -16,14 +16,14 @@ from .naming import STATES, told_state
 from .over_time import put
 from .picture import draw_for_page
 from .words import hours_words, question
-from .worst import like_worst, order_words, worst_first
+from .worst import from_the_worst, like_worst, order_words
 
 SAID = re.compile(r"refused, since .*")
 
 
 def report_page(sheet, command, second):
     """The page of an accepted sheet, whose report has these lines in its second listing."""
-    found = worst_first(sheet.tree, rows(second))
+    found = from_the_worst(sheet.tree, rows(second))
     return page(f"{sheet.name}: report", [
         *top(sheet), *question_part(sheet), *answer_part(sheet, found), *states_part(sheet, found),
         *section("curve", "Over time", curve_or_why_not(sheet, command, found)),
@@ -64,8 +64,8 @@ def answer_part(sheet, found):
     return section("answer", "The answer", [
         '<ul class="counts">' + "".join(f'<li class="{word}"><b>{count[word]}</b> {word}</li>' for word in count) + "</ul>",
         f"<p>{count_words(len(found), count)}</p>",
-        f"<p>Things begin, by custom, in {told(sheet, BEGINNING)}{chance_words(sheet, first)}: {ending(first.verdict)}</p>",
-        f"<p>The worst is {told(sheet, found[0].state)}{chance_words(sheet, found[0])}: {ending(found[0].verdict)}{others_words(found)}</p>"])
+        f"<p>Things begin, by custom, in {told(sheet, BEGINNING)}{with_chance(sheet, first)}: {ending(first.verdict)}</p>",
+        f"<p>The worst is {told(sheet, found[0].state)}{with_chance(sheet, found[0])}: {ending(found[0].verdict)}{others_words(found)}</p>"])
 
 
 def count_words(states, count):
@@ -79,7 +79,7 @@ def others_words(found):
     return f" {others} more {'state has' if others == 1 else 'states have'} the same interval." if others else ""
 
 
-def chance_words(sheet, row):
+def with_chance(sheet, row):
     """The chance, to stand before a verdict; where the question is not about one probability there is none."""
     return f", with the chance {chance(row.lower, row.upper)}" if isinstance(sheet.tree, P) else ""
 
@@ -113,7 +113,7 @@ def curve_or_why_not(sheet, command, found):
     if not asked:
         return ["<p>There is no curve, since the question is not about a probability.</p>"]
     if isinstance(asked[0].path, Next):
-        return ["<p>There is no curve, since the question is about the next move, whenever it comes, and has no hours.</p>"]
+        return ["<p>There is no curve, since the first probability that is asked about is that of the next move, which has no hours.</p>"]
     if not sheet.chain.q:
         return ["<p>There is no curve, since the sheet has no moves to other states and nothing changes with time.</p>"]
     drawn = course(command, sheet, asked[0], [row.state for row in found])

@@ -8,7 +8,7 @@ from .picture import cut
 NAME_LETTERS = 120          # a longer name of a state is cut
 
 
-class Sheet:
+class ShownSheet:
     def __init__(self, folder, texts):
         self.texts = texts
         self.name = printable(folder.resolve().name) or "sheet"

@@ -98,9 +98,8 @@ class Telling:
         return " or ".join(map(self.grouped, trees))
 
     def not_all_of(self, trees):
-        if all(map(is_plain, trees)):
-            return joined([self.name(tree) for tree in trees], "and") + f" do not {'both' if len(trees) == 2 else 'all'} hold"
-        return f"it is not so that ({self.all_of(trees)})"
+        """Of parts without `!`, which `&` joins: each has a name."""
+        return joined([self.name(tree) for tree in trees], "and") + f" do not {'both' if len(trees) == 2 else 'all'} hold"
 
 
 def question(tree):

@@ -1,7 +1,9 @@
 """Which state of a report is the worst, and in what order the page has the states for it."""
 from reckoning.formula import P
+from reckoning.verdict import NO, UNDECIDED, YES
 
 AT_MOST = (b"<", b"<=")
+FROM_WORST = (NO, UNDECIDED, YES)
 
 
 def most_is_worst(tree):
@@ -9,9 +11,12 @@ def most_is_worst(tree):
     return isinstance(tree, P) and tree.comparison in AT_MOST
 
 
-def worst_first(tree, second):
-    """The rows of the report's second listing, which has the greatest lower end first, with the worst state at the top."""
-    return second if most_is_worst(tree) else second[::-1]
+def from_the_worst(tree, second):
+    """The rows of the report's second listing, which has the greatest lower end first, with the worst state at the top. Of a question that is about
+    no probability the ends of no and undecided begin alike, and the verdict tells."""
+    if isinstance(tree, P):
+        return second if most_is_worst(tree) else second[::-1]
+    return sorted(second[::-1], key=lambda row: FROM_WORST.index(row.verdict))
 
 
 def order_words(tree):
@@ -21,8 +26,7 @@ def order_words(tree):
     if isinstance(tree, P):
         return ("The question sets a least, so the least likely state is the worst: the rows stand as in the second listing of the report "
                 "from its foot, with the least lower end first.")
-    return ("A state that says no is worse than one that says yes: the rows stand as in the second listing of the report from its foot, "
-            "with the least lower end first.")
+    return "A state that says no is worse than an undecided one, and that is worse than one that says yes: so the rows stand."
 
 
 def like_worst(rows):

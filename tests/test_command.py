@@ -14,7 +14,7 @@ from reckoning.refusal import BY_TEXTS, Job, refusal
 from reckoning.report import refused
 from reckoning.sheets import LABELS, MOVES, REPORT, moves_text
 from tests.edges import levels, load, loads, moves, small, typed
-from tests.places import EXAMPLES, ROOT
+from tests.places import EXAMPLES, PROGRAM, ROOT
 from tests.program import put
 
 COMMAND = ROOT / "sheetcheck"
@@ -95,6 +95,14 @@ class Command(unittest.TestCase):
                 self.assertEqual((printed, status), (refused(number), TURNED_BACK))
                 self.assertEqual(command_on((moves, labels, b"tt\n"), "--copy"), (printed, said.replace("sheetcheck: ", "sheetcopy: "), status))
 
+    def test_prints_what_the_program_prints(self):
+        """And nothing that is said beside it, by whomever."""
+        noisy = {**os.environ, "LD_PRELOAD": "/no/such/library.so"}
+        for folder, status in (("examples/gun-string", ANSWERED), ("docs/broken-sheet", TURNED_BACK)):
+            printed, said, ended = command(folder, env=noisy)
+            self.assertIn("/no/such/library.so", said)
+            self.assertEqual((printed, ended), (subprocess.run([PROGRAM], cwd=ROOT / folder, capture_output=True).stdout, status))
+
     def test_goes_by_what_the_folder_is_called(self):
         """Names that a shell takes for something else."""
         with tempfile.TemporaryDirectory() as outer:
@@ -138,6 +146,15 @@ class WrongUse(unittest.TestCase):
             self.assertIn("no program was built", said)
 
 
+def stand_in(outer, name, does):
+    """The path to look for commands on, with one of this name before all others that does something else."""
+    made = Path(outer) / "commands" / name
+    made.parent.mkdir()
+    made.write_text(f"#!/bin/sh\n{does}\n")
+    made.chmod(0o755)
+    return f"{made.parent}:{os.environ['PATH']}"
+
+
 class Bare:
     """The command in a repository with nothing built, where `rt` notes that it was called and fails."""
 
@@ -146,11 +163,7 @@ class Bare:
         (self.root / "crates").mkdir(parents=True)
         (self.root / "crates.txt").touch()
         shutil.copy(COMMAND, self.root)
-        builder = Path(outer) / "commands" / "rt"
-        builder.parent.mkdir()
-        builder.write_text(f"#!/bin/sh\ntouch '{self.noted}'\nexit 1\n")
-        builder.chmod(0o755)
-        self.path = f"{builder.parent}:{os.environ['PATH']}"
+        self.path = stand_in(outer, "rt", f"touch '{self.noted}'; exit 1")
 
     def run(self, *words):
         done = subprocess.run(["./sheetcheck", *words], cwd=self.root, capture_output=True, env={**os.environ, "PATH": self.path})
@@ -167,6 +180,22 @@ class Unwritten(unittest.TestCase):
         for words in (["examples/small"], ["--copy", "examples/small"], ["--html", "examples/small"], ["docs/broken-sheet"], ["--help"]):
             with open("/dev/full", "wb") as full:
                 self.assertEqual(command(*words, stdout=full)[1:], (NOT_WRITTEN, NOT_WHOLE), words)
+
+    def test_nobody_left_to_tell(self):
+        """The status is the same where standard error fails too."""
+        for line, status in (("examples/small > /dev/full 2>&1", NOT_WHOLE), ("docs/broken-sheet > /dev/full 2> /dev/full", NOT_WHOLE),
+                             ("nowhere 2>&-", WRONG_USE), ("2> /dev/full", WRONG_USE), ("docs/broken-sheet 2> /dev/full", TURNED_BACK),
+                             ("docs/broken-sheet 2>&-", TURNED_BACK), ("examples/small 2>&-", ANSWERED)):
+            done = subprocess.run(["bash", "-c", f"./sheetcheck {line}"], cwd=ROOT, stdout=subprocess.DEVNULL)
+            self.assertEqual(done.returncode, status, line)
+
+    def test_page_that_is_not_made(self):
+        """Whatever status the maker of pages ends with."""
+        with tempfile.TemporaryDirectory() as outer:
+            path = stand_in(outer, "python3", "exit 1")
+            for folder in ("examples/small", "docs/broken-sheet"):
+                printed, said, status = command("--html", folder, env={**os.environ, "PATH": path})
+                self.assertEqual((printed, said, status), (b"", "sheetcheck: no page was made\n", NOT_WHOLE))
 
     def test_closed_output(self):
         done = subprocess.run(["bash", "-c", "./sheetcheck examples/small >&-"], cwd=ROOT, capture_output=True, text=True)
@@ -213,6 +242,14 @@ class NewSheet(unittest.TestCase):
                 self.assertIn("is there already", said)
                 self.assertEqual(sorted((path.name, path.read_bytes()) for path in Path(outer).rglob("*") if path.is_file()), before)
 
+    def test_leaves_what_it_cannot_list(self):
+        with tempfile.TemporaryDirectory() as outer:
+            full = Path(outer) / "full"
+            put((MOVES, LABELS, b"tt\n"), full)
+            path = stand_in(outer, "ls", "echo 'Permission denied' >&2; exit 2")
+            self.assertEqual(command("--new", full, env={**os.environ, "PATH": path})[2], WRONG_USE)
+            self.assertEqual((full / "moves.txt").read_bytes(), MOVES)
+
 
 class WithoutPython(unittest.TestCase):
     """Reports and refusals need no Python; only the place of the fault is missing then, and there is no page."""
@@ -221,7 +258,7 @@ class WithoutPython(unittest.TestCase):
     def setUpClass(cls):
         cls.outer = tempfile.TemporaryDirectory()
         cls.addClassCleanup(cls.outer.cleanup)
-        for name in ("bash", "cat", "dirname", "find", "readlink"):
+        for name in ("bash", "cat", "dirname", "find", "mktemp", "readlink", "rm"):
             (Path(cls.outer.name) / name).symlink_to(shutil.which(name))
 
     def command(self, *words):

@@ -74,7 +74,7 @@ class Contents(unittest.TestCase):
         self.assertEqual([to for _, to in LINK.findall(TEXT)], [re.sub(r"[^a-z0-9 ]", "", each.lower()).replace(" ", "-") for each in headings])
 
     def test_names_what_is_there(self):
-        for path in re.findall(r"(?:docs|examples|library|tools)/[a-z-]*", TEXT):
+        for path in re.findall(r"(?:docs|examples|library|tools)/(?:[\w-]+(?:\.[a-z]+)?)?", TEXT):
             self.assertTrue((ROOT / path).exists(), path)
 
     def test_sample(self):

@@ -12,7 +12,7 @@ from pages.layout import cells_of, through
 from pages.words import question
 from reckoning.__main__ import read_texts
 from reckoning.formula import read_formula
-from reckoning.limits import BILLION, MOST_HUNDREDTHS, MOST_RATE
+from reckoning.limits import BILLION, FORMULA_BYTES, MOST_HUNDREDTHS, MOST_RATE
 from reckoning.report import HEAD
 from reckoning.sheets import LABELS, MOVES, NO_MOVES, labels_text, moves_text
 from tests.pages import COMMAND, HOSTILE_FOLDER, Reader, hostile_sheet, page_of, refused_sheet
@@ -50,6 +50,10 @@ WORDS = {
     "! & ! a ! ! & ! b ! c": "`a`, `b` or `c` holds.",
     "! & a ! b": "If `a` holds then `b` holds.",
     "! & a b": "`a` and `b` do not both hold.",
+    "! & & a b c": "`a`, `b` and `c` do not all hold.",
+    "! & ! & a b ! c": "(`a` and `b` hold) or `c` holds.",
+    "! & ! & a b ! ! d": "(`a` and `b` hold) or `d` does not hold.",
+    "! & & a b ! & c ! d": "If `a` and `b` hold then `c` holds and `d` does not hold.",
     "! ! a": "`a` holds.",
     "& c ! & ! a ! b": "`c` holds and (`a` or `b` holds).",
     "P > 5 U 1 tt ! & a ! b": "With probability more than 0.000000005: within 1 hour (if `a` holds then `b` holds).",
@@ -197,6 +201,12 @@ class Rows(unittest.TestCase):
         self.assertEqual(page.all("td", "number"), [])
         self.assertIn("the ends only repeat the verdict; the depth is 0", " ".join(page.words("p")))
 
+    def test_no_is_worse_than_undecided(self):
+        """Where the ends of both begin at 0."""
+        moves, labels = moves_text([(0, 0, 2), (0, 1, 1)]), labels_text([b"dead"], [[0], [1], [0]])
+        page = Reader(asked(moves, labels, b"& ! dead P >= 333333334 X dead\n"))
+        self.assertEqual([(state, verdict) for state, _, _, verdict in page.rows()], [(2, "no"), (1, "no"), (0, "undecided")])
+
     def test_without_names(self):
         page = Reader(asked(MOVES, LABELS, b"P < 5 U 8 up dead\n"))
         self.assertEqual((page.all("td", "name"), len(page.rows())), ([], 2))
@@ -230,6 +240,14 @@ class Curve(unittest.TestCase):
                         self.assertEqual(row, [lower, upper, verdict])
                 self.assertIn(f"Drawn is the worst {which}, state {states[0]} (", " ".join(example(name).words("p")))
 
+    def test_long_formula(self):
+        """Hours with which the formula would be longer than it may are left out of the curve."""
+        always = b"P <= 1000000000 X "
+        formula = b"P < 500 U 1 " + always * 14 + b"up & dead " + always * 13 + b"up\n"
+        self.assertEqual(len(formula), FORMULA_BYTES - 1)
+        [points] = self.curves(Reader(asked(MOVES, LABELS, formula)))
+        self.assertEqual([hours for hours, *_ in points], ["0", "1", "2"])
+
     def test_one_hour(self):
         """A question about how things are at one hour has a curve over that hour, and an axis that begins below the least of its chances."""
         page = Reader(asked(MOVES, LABELS, b"P >= 990000000 V 8 8 tt up\n"))
@@ -240,7 +258,7 @@ class Curve(unittest.TestCase):
         self.assertTrue(any(words == "probability, from 0.99 on" for words in page.words("text")), page.words("text"))
 
     def test_hours(self):
-        """From no time, or the first of two unless they are one hour, to twice the question's, within 8,760 hours and the load limit of each phase."""
+        """From no time, or the first of two unless they are one hour, to twice the question's, within 8,760 hours and the load limit of a phase."""
         for typed, rate, first, last in (("U 8.25", 500, 0, 1650), ("U 0", 500, 0, 200_000), ("U 1", MOST_RATE, 0, 100),
                                          ("U 8760", 1, 0, MOST_HUNDREDTHS), ("V 2 8.25", 500, 200, 1650), ("V 0 8.25", 500, 0, 1650),
                                          ("V 1 2", MOST_RATE, 100, 200),
@@ -338,6 +356,17 @@ class Command(unittest.TestCase):
             status, page, said = self.called(*words)
             self.assertEqual((status, page), (2, b""))
             self.assertIn("usage: ", said)
+
+    def test_broken_report(self):
+        """A report that breaks off makes no page."""
+        with tempfile.TemporaryDirectory() as folder:
+            cut = Path(folder) / "cut"
+            cut.write_text("#!/bin/sh\nprintf 'state,lower,upper,depth,verdict\\n0,0,0,40,no\\n1,1,1,40,no\\n"
+                           "state,lower,upper,depth,verdict\\n1,1,1,40,no\\n'\n")
+            cut.chmod(0o755)
+            done = subprocess.run([TOOLS / "page", "--program", cut, EXAMPLES / "small"], capture_output=True, text=True)
+            self.assertEqual((done.returncode, done.stdout), (3, ""))
+            self.assertIn("not whole", done.stderr)
 
     def test_not_written(self):
         """No program, a program that prints no report, a full disk."""

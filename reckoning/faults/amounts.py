@@ -28,10 +28,10 @@ def ungrouped(part):
     return NO_DIGIT.sub(b"", part).decode() if GROUPED.fullmatch(part) else None
 
 
-def groups(part):
-    """What is said of a number with thousands separators; nothing of others."""
+def groups(part, digits):
+    """What is said of a number of at most so many digits with thousands separators; nothing of others."""
     bare = ungrouped(part)
-    return f"{quoted(part)} has thousands separators: write {bare}" if bare else ""
+    return f"{quoted(part)} has thousands separators: write {bare}" if bare and len(bare) <= digits else ""
 
 
 def zeros(part, digits):
@@ -44,6 +44,11 @@ def as_threshold(part):
     """A typed probability as a threshold; None where it is none, or no whole billionths."""
     value = amount(part)
     return str(value * BILLION) if value is not None and value <= 1 and (value * BILLION).denominator == 1 else None
+
+
+def rising(*typed):
+    """Typed numbers as hours of a formula, the least first; None for one that cannot be."""
+    return [as_hours(part) for part in sorted(typed, key=lambda part: amount(part) or 0)]
 
 
 def as_hours(part):

@@ -2,7 +2,7 @@
 import re
 
 from ..limits import MOST_RATE, RATE_HOURS, SHEET_DIGITS
-from ..texts import is_number
+from ..texts import is_mark, is_number
 from .amounts import amount, groups, zeros
 from .saving import saving_slip
 from .words import counted, first, quoted
@@ -14,13 +14,14 @@ MINUS = re.compile(rb"-[0-9.]+")
 
 def number_fault(field, wanted):
     """What is wrong with a field that is no number of a sheet; `wanted` says what it should be."""
-    return first((saving_slip, groups), field) or zeros(field, SHEET_DIGITS) or first(
+    return saving_slip(field) or groups(field, SHEET_DIGITS) or zeros(field, SHEET_DIGITS) or first(
         (empty, spaced, negative, plus, digits, decimal, no_number), field, wanted)
 
 
 def mark_fault(field, name):
     """What is wrong with a field that is no mark; its column has this name."""
-    return saving_slip(field) or first((empty, spaced, no_mark), field, f"0 or 1 for {quoted(name)}")
+    wanted = f"0 or 1 for {quoted(name)}"
+    return saving_slip(field) or empty(field, wanted) or is_mark(field.strip()) and spaced(field, wanted) or no_mark(field, wanted)
 
 
 def empty(field, wanted):
@@ -52,6 +53,8 @@ def decimal(field, wanted):
     value = amount(field)
     if value is None:
         return ""
+    if value.denominator == 1 and is_number(b"%d" % value.numerator, SHEET_DIGITS):
+        return f"{quoted(field)} is not written as a whole number: write {value}"
     words = f"{quoted(field)} is no whole number: {wanted} is wanted"
     return words + per_hour(field, value) if wanted == RATE else words
 

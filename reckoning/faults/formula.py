@@ -29,7 +29,7 @@ def placed(tree):
     return found
 
 
-def bounds(job):
+def placed_bounds(job):
     """Every `P` of the formula of a job."""
     return [each for each in placed(job.tree) if isinstance(each.node, P)]
 
@@ -74,7 +74,7 @@ def meant(name, names):
 
 def large_number(job):
     """The first threshold or time that is over its limit."""
-    for token, *_, p in bounds(job):
+    for token, *_, p in placed_bounds(job):
         if p.threshold > MOST_THRESHOLD:
             words = f"threshold {p.threshold:,}, it is in billionths and at most {MOST_THRESHOLD:,}, which is probability 1"
             return [told_token(words, token + TO_THRESHOLD)]
@@ -85,7 +85,7 @@ def large_number(job):
 
 def falling_times(job):
     """The first `V` whose first time exceeds the second."""
-    token, times = next((token + TO_TIMES, p.path.times) for token, *_, p in bounds(job) if p.path.times != tuple(sorted(p.path.times)))
+    token, times = next((token + TO_TIMES, p.path.times) for token, *_, p in placed_bounds(job) if p.path.times != tuple(sorted(p.path.times)))
     first, second = map(hours, times)
     return [told_token(f"the first time, {first}, is after the second, {second}: write V {second} {first}", token)]
 
@@ -101,7 +101,7 @@ def large_load(job):
 
 def phases(job):
     """The token, the hundredths of an hour and the words of every phase in a formula."""
-    for token, *_, p in bounds(job):
+    for token, *_, p in placed_bounds(job):
         last = token + TO_TIMES + len(p.path.times) - 1
         if len(p.path.phases) == 1:
             yield last, p.path.phases[0], f"{hours(p.path.phases[0])} hours"

@@ -47,10 +47,11 @@ def one_name_fault(names, at):
     name = names[at]
     if at == MOST_NAMES:
         return f"{len(names)} names, there may be at most {MOST_NAMES}: this is the first too many"
-    if not name and at == len(names) - 1:
-        return "empty: take out the comma at the end of the line"
-    if not is_word(name):
-        return name_fault(name)
-    if name in (TRUE_WORD, LABELS_HEAD):
-        return f"{quoted(name)} cannot be a name, since it has a meaning of its own: choose another"
-    return f"{quoted(name)} again, it stands in field {names.index(name) + FIRST_NAME} already" if name in names[:at] else ""
+    if not name:
+        return "empty: give the column a name, or take the column out in every line"
+    bare = name.strip(b" \"'").lower()
+    if bare in (TRUE_WORD, LABELS_HEAD):
+        return f"{quoted(name)} cannot be a name, since {bare.decode()} has a meaning of its own: choose another"
+    if bare in names[:at]:
+        return f"{quoted(name)} again, it stands in field {names.index(bare) + FIRST_NAME} already"
+    return "" if is_word(name) else name_fault(name)

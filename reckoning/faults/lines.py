@@ -69,7 +69,8 @@ def move_count_fault(parts):
     if len(parts) == MOVE_FIELDS:
         return ""
     rate = ungrouped(COMMA.join(parts[MOVE_FIELDS - 1:]))
-    cure = f": write {rate} without thousands commas" if rate else count_cure(parts, MOVE_FIELDS) or decimal_comma(parts)
+    grouped = rate and len(rate) <= SHEET_DIGITS
+    cure = f": is {rate} meant? write it without commas" if grouped else count_cure(parts, MOVE_FIELDS) or decimal_comma(parts)
     return f"{counted(len(parts), 'field')}, a move has {MOVE_FIELDS}{cure}"
 
 

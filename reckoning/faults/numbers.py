@@ -4,7 +4,7 @@ import re
 from ..formula import COMPARISONS, TIMED, Between, Next, Until
 from ..limits import BILLION, FORMULA_DIGITS, HOUR, MOST_HUNDREDTHS, MOST_THRESHOLD
 from ..texts import is_number
-from .amounts import amount, as_hours, as_threshold, groups, zeros
+from .amounts import amount, as_hours, as_threshold, groups, rising, zeros
 from .words import first, quoted
 
 TWISTED = {b"=>": ">=", b"=<": "<=", b"=": "<= or >=", b"==": "<= or >="}
@@ -62,7 +62,8 @@ def threshold_fault(tokens, at):
         return f"a space inside a comparison: write {(tokens[at - 1] + tokens[at]).decode()}"
     if tokens[at] in (*TIMED, Next.letter):
         return f"no threshold before {quoted(tokens[at])}: {BILLIONTHS}, {EXAMPLE}"
-    return zeros(tokens[at], FORMULA_DIGITS) or first((threshold_digits, groups, probability, no_threshold), tokens[at])
+    part = tokens[at]
+    return zeros(part, FORMULA_DIGITS) or groups(part, FORMULA_DIGITS) or first((threshold_digits, probability, no_threshold), part)
 
 
 def threshold_digits(part):
@@ -76,7 +77,7 @@ def probability(part):
         return ""
     words = f"{quoted(part)} is not whole, {BILLIONTHS}: "
     if value > 1:
-        return f"{words}at most {MOST_THRESHOLD:,}, which is probability 1"
+        return f"{quoted(part)} is no threshold: {BILLIONTHS}, at most {MOST_THRESHOLD:,}, which is probability 1"
     down, rest = divmod(value * BILLION, 1)
     return words + (f"it lies between {down} and {down + 1}" if rest else f"{part.decode()} is {down}")
 
@@ -86,15 +87,17 @@ def no_threshold(part):
 
 
 def hours_fault(tokens, at):
-    return two_times(tokens, at) or compared(tokens, at) or first((hours_digits, groups, typed_otherwise, with_unit), tokens[at]) or (
-        f"{quoted(tokens[at])} is no number of hours: {hours_next(tokens, at)}")
+    part = tokens[at]
+    return (two_times(tokens, at) or compared(tokens, at) or groups(part, FORMULA_DIGITS)
+            or first((typed_otherwise, hours_digits, with_unit), part) or f"{quoted(part)} is no number of hours: {hours_next(tokens, at)}")
 
 
 def two_times(tokens, at):
     """Both times in one token: behind `V` where no other time follows, and elsewhere in brackets."""
     found, after = TWO_TIMES.fullmatch(tokens[at]), b"".join(tokens[at + 1:at + 2])
     are_two = tokens[at - 1] == Between.letter and amount(after) is None or tokens[at][:1] in (b"[", b"(")
-    return f"{quoted(tokens[at])} is two times in one: write V {found[1].decode()} {found[2].decode()}" if found and are_two else ""
+    times = rising(*found.groups()) if found and are_two else [None]
+    return "" if None in times else f"{quoted(tokens[at])} is two times in one: write V {' '.join(times)}"
 
 
 def hours_digits(part):

@@ -3,7 +3,7 @@ import re
 
 from ..formula import COMPARISONS, TIMED, Between, Next, Until
 from ..texts import is_word
-from .amounts import amount, as_hours
+from .amounts import amount, as_hours, rising
 from .names import name_fault
 from .numbers import ASKED, GLUED, UNITS, threshold_meant
 from .words import first, quoted
@@ -11,9 +11,10 @@ from .words import first, quoted
 # Operators of other notations, and how what they say is written here.
 AND, OR, NOT, IMPLIES = "a and b is & a b", "a or b is ! & ! a ! b", "not a is ! a", "a implies b is ! & a ! b"
 EVENTUALLY, ALWAYS = "a within {0} hours is U {0} tt a", "a all through {0} hours is V {0} {0} a tt"
-SIGNS = {b"|": OR, b"||": OR, b"\\/": OR, b"->": IMPLIES, b"=>": IMPLIES, b"&&": AND, b"/\\": AND, b"^": AND, b"~": NOT,
-         b"F": EVENTUALLY, b"G": ALWAYS}
-WORDS = {b"and": AND, b"or": OR, b"not": NOT, b"implies": IMPLIES}
+JOINING = {b"&": AND, b"|": OR, b"||": OR, b"\\/": OR, b"->": IMPLIES, b"=>": IMPLIES, b"&&": AND, b"/\\": AND, b"^": AND, b"and": AND, b"or": OR,
+           b"implies": IMPLIES}
+SIGNS = {**{part: words for part, words in JOINING.items() if part != b"&" and not is_word(part)}, b"~": NOT, b"F": EVENTUALLY, b"G": ALWAYS}
+WORDS = {**{part: words for part, words in JOINING.items() if is_word(part)}, b"not": NOT}
 WITHIN = re.compile(rb"([FG])[<>=\[]+([0-9.]*).*")
 SOME_HOURS = "8"            # in examples
 NOT_HERE = re.compile(rb"(?:S|R|Pmax|Pmin)(?:[<>=\[{].*)?")
@@ -21,7 +22,7 @@ LETTER = re.compile(rb"[A-Za-z]")
 BRACKETS = re.compile(rb"[\[\](){}]")
 STUCK = re.compile(rb"([!&]+)((?:[A-Za-z][!-~]*)?)")
 STUCK_BOUND = re.compile(rb"P(<=|>=|<|>)([^=\[\](){}][^\[\](){}]*)")
-STUCK_TIMES = re.compile(rb"[UV](?:<=?)?\[?([0-9.]+)(?:,([0-9.]+))?\]?")
+STUCK_TIMES = re.compile(rb"([UV])(?:<=?)?\[?([0-9.]+)(?:,([0-9.]+))?\]?")
 LETTERS = *TIMED, Next.letter
 EXAMPLE = "P >= 990000000 U 8 up dead"
 BEGINNINGS = "a label, tt, !, & or P"
@@ -31,17 +32,17 @@ BEHIND_P = f"stands behind P, a comparison and a threshold, as in {EXAMPLE}"
 def state_fault(tokens, at):
     """What is wrong with a token that begins no state formula."""
     if amount(tokens[at]) is not None:
-        return number_fault(tokens, at)
+        return stray_number(tokens, at)
     return first((sign, not_here, stuck_bound, bracket, stuck, path_letter, comparison, capital, no_formula), tokens[at])
 
 
-def number_fault(tokens, at):
+def stray_number(tokens, at):
     """A number where a state formula is wanted: often a time too many."""
     part, before = tokens[at], tokens[:at]
     if before[-1:] == [Next.letter]:
         return f"{quoted(part)} is a number: X has no hours, as in P <= 10000000 X dead"
     if before[-2:-1] == [Until.letter]:
-        earlier, later = (as_hours(typed) or typed.decode() for typed in sorted((before[-1], part), key=amount))
+        earlier, later = rising(before[-1], part)
         return f"{quoted(part)} is a second time, U has one: from {earlier} to {later} hours is V {earlier} {later}"
     if before[-3:-2] == [Between.letter]:
         return f"{quoted(part)} is a third time, V has two, as in V 2 8.25 up dead"
@@ -114,10 +115,11 @@ def path_bracket(part):
 def stuck_times(part):
     """A letter and its times with no space between them, perhaps with PRISM's signs."""
     found = STUCK_TIMES.fullmatch(part)
-    times = [as_hours(time) for time in found.groups() if time] if found else []
+    times = rising(*filter(None, found.groups()[1:])) if found else []
     if not times or None in times:
         return ""
-    return f"{quoted(part)} is not written so: write {' '.join(['U' if len(times) == 1 else 'V', *times])}"
+    letter = Between.letter if len(times) == 2 else found[1]
+    return f"{quoted(part)} is not written so: write {' '.join([letter.decode(), *times])}"
 
 
 def small_letter(part):
@@ -131,7 +133,7 @@ def no_path(part):
 def left_over(tokens, at):
     """What is said of a token behind the end of the formula."""
     part, before = tokens[at], tokens[at - 1]
-    if part == b"&" or part in SIGNS or part in WORDS:
+    if part in JOINING:
         return between(tokens, at)
     if before in WORDS:
         return f"{quoted(part)} is left over, since {quoted(before)} is taken for a label: {WORDS[before]}"
@@ -140,14 +142,13 @@ def left_over(tokens, at):
         return f"{quoted(part)} is left over, since {quoted(tokens[unit])} (token {unit + 1}) is taken for a label: hours are written without a unit"
     if before == b"p" and comparison(part):
         return f"{quoted(part)} is left over, since {quoted(before)} is taken for a label: write P, a capital"
-    return first((path_letter, bracket), part) or (f"{quoted(part)} is left over, the formula ends with token {at}, {quoted(before)}: "
+    return first((sign, path_letter, bracket), part) or (f"{quoted(part)} is left over, the formula ends with token {at}, {quoted(before)}: "
                                                    "two formulas are joined by & before both, as in & up hot")
 
 
 def between(tokens, at):
-    """What is said of an operator between what it joins."""
-    part, beside = tokens[at], [tokens[at - 1], *tokens[at + 1:at + 2]]
-    cure = written(part) or WORDS.get(part, AND)
-    if cure == AND and len(beside) == 2 and all(map(is_word, beside)):
-        cure = f"write & {beside[0].decode()} {beside[1].decode()}"
+    """What is said of an operator between what it joins; of two labels that are all there is, how it is written."""
+    part, cure = tokens[at], JOINING[tokens[at]]
+    if cure == AND and len(tokens) == 3 and all(map(is_word, tokens[::2])):
+        cure = f"write & {tokens[0].decode()} {tokens[2].decode()}"
     return f"{quoted(part)} stands between what it joins, and belongs before it: {cure}"

@@ -25,7 +25,11 @@ def as_here(text):
 def is_unbounded(text):
     """Whether a formula text in PRISM's notation asks about all time."""
     found = PRISM.fullmatch(text)
-    return bool(found) and found["letter"] != b"X" and not any(found[name] for name in ("time", "at", "earliest"))
+    return bool(found) and found["letter"] != b"X" and not is_timed(found)
+
+
+def is_timed(found):
+    return any(found[name] for name in ("time", "at", "earliest"))
 
 
 def bound(found):
@@ -46,10 +50,10 @@ def is_opposite(found):
 
 def path_of(found):
     letter, second = found["letter"].decode(), operand(found["second"])
+    if (letter == "U") != bool(found["first"]) or letter == "X" and is_timed(found):
+        return ""
     if letter == "X":
         return f"X {second}"
-    if (letter == "U") != bool(found["first"]):
-        return ""
     if letter == "G" and found["time"]:
         return all_through(as_hours(found["time"]), second)
     first = operand(found["first"]) if letter == "U" else "tt"

@@ -73,6 +73,9 @@ LEFT_OVER = {
     b"up -> dead\n": 'formula.txt, token 2: "->" stands between what it joins, and belongs before it: a implies b is ! & a ! b',
     b"P < 5 U 90 hours tt up\n":
         'formula.txt, token 8: "up" is left over, since "hours" (token 6) is taken for a label: hours are written without a unit',
+    b"! up & dead\n": 'formula.txt, token 3: "&" stands between what it joins, and belongs before it: a and b is & a b',
+    b"up and not dead\n": 'formula.txt, token 2: "and" stands between what it joins, and belongs before it: a and b is & a b',
+    b"up F dead\n": 'formula.txt, token 2: "F" is no operator: a within 8 hours is U 8 tt a',
     b"not up\n": 'formula.txt, token 2: "up" is left over, since "not" is taken for a label: not a is ! a',
     b"and up dead\n": 'formula.txt, token 2: "up" is left over, since "and" is taken for a label: a and b is & a b',
     b"p < 5 U 8 up dead\n": 'formula.txt, token 2: "<" is left over, since "p" is taken for a label: write P, a capital',
@@ -161,9 +164,11 @@ THRESHOLDS = {
     b"P < 0.99999999999 U 8 up dead\n":
         'formula.txt, token 3: "0.99999999999" is not whole, thresholds are whole billionths: it lies between 999999999 and 1000000000',
     b"P < 1.5 U 8 up dead\n":
-        'formula.txt, token 3: "1.5" is not whole, thresholds are whole billionths: at most 1,000,000,000, which is probability 1',
+        'formula.txt, token 3: "1.5" is no threshold: thresholds are whole billionths, at most 1,000,000,000, which is probability 1',
+    b"P < 5.0 U 8 up dead\n":
+        'formula.txt, token 3: "5.0" is no threshold: thresholds are whole billionths, at most 1,000,000,000, which is probability 1',
     b"P < 150% U 8 up dead\n":
-        'formula.txt, token 3: "150%" is not whole, thresholds are whole billionths: at most 1,000,000,000, which is probability 1',
+        'formula.txt, token 3: "150%" is no threshold: thresholds are whole billionths, at most 1,000,000,000, which is probability 1',
     b"P < 0990000000 U 8 up dead\n": 'formula.txt, token 3: "0990000000" begins with a zero: write 990000000',
     b"P < 00 U 8 up dead\n": 'formula.txt, token 3: "00" begins with a zero: write 0',
     b"P < 10000000000 U 8 up dead\n": "formula.txt, token 3: 11 digits, a threshold is at most 1,000,000,000 billionths, which is probability 1",
@@ -189,6 +194,8 @@ PATHS = {
     b"P < 5 G 8 dead\n": 'formula.txt, token 4: "G" is no operator: a all through 8 hours is V 8 8 a tt',
     b"P < 5 u 8 up dead\n": 'formula.txt, token 4: "u" is a small letter: write U',
     b"P < 5 x dead\n": 'formula.txt, token 4: "x" is a small letter: write X',
+    b"P < 5 V2 8 up dead\n": 'formula.txt, token 4: "V2" is not written so: write V 2',
+    b"P < 5 U[8,1] up dead\n": 'formula.txt, token 4: "U[8,1]" is not written so: write V 1 8',
     b"P < 5 U<=8 up dead\n": 'formula.txt, token 4: "U<=8" is not written so: write U 8',
     b"P < 5 U8.50 up dead\n": 'formula.txt, token 4: "U8.50" is not written so: write U 8.5',
     b"P < 5 U[1,8] up dead\n": 'formula.txt, token 4: "U[1,8]" is not written so: write V 1 8',
@@ -231,6 +238,9 @@ HOURS = {
     b"P < 5 V 1 up dead\n": 'formula.txt, token 6: "up" is no number of hours: a second time comes after V, as in V 2 8.25 up dead',
     b"P < 5 U [1,8] up dead\n": 'formula.txt, token 5: "[1,8]" is two times in one: write V 1 8',
     b"P < 5 V [1,8] up dead\n": 'formula.txt, token 5: "[1,8]" is two times in one: write V 1 8',
+    b"P < 5 V [1.50,8.0] up dead\n": 'formula.txt, token 5: "[1.50,8.0]" is two times in one: write V 1.5 8',
+    b"P < 5 U [8,1] up dead\n": 'formula.txt, token 5: "[8,1]" is two times in one: write V 1 8',
+    b"P < 5 U 00000000008 up dead\n": 'formula.txt, token 5: "00000000008" begins with a zero: write 8',
     b"P < 5 V 1,8 up dead\n": 'formula.txt, token 5: "1,8" is two times in one: write V 1 8',
     b"P < 5 V 1,5 8 up dead\n": 'formula.txt, token 5: "1,5" has a comma: write 1.5',
 }
@@ -255,6 +265,11 @@ PRISM = {
     b"P=? [ G<=0 up ]\n": 'formula.txt, token 1: "P=?" is no operator: every report shows the probability, write P >= 0 to ask for no threshold',
     b"P=? [ G[2,8] up ]\n":
         'formula.txt, token 1: "P=?" is no operator: every report shows the probability, write P >= 0 to ask for no threshold',
+    b"P>=0.99 [ X<=8 dead ]\n": 'formula.txt, token 1: "P>=0.99" lacks spaces: write P >= 990000000',
+    b"P>=0.99 [ up X dead ]\n": 'formula.txt, token 1: "P>=0.99" lacks spaces: write P >= 990000000',
+    b"P>0.2 [ G[2,8] up ]\n": 'formula.txt, token 1: "P>0.2" is PRISM\'s notation: here the formula is P < 800000000 V 2 8 tt ! up',
+    b"P<=0.2 [ G[2,8] up ]\n": 'formula.txt, token 1: "P<=0.2" is PRISM\'s notation: here the formula is P >= 800000000 V 2 8 tt ! up',
+    b"P>=0.2 [ G[2,8] up ]\n": 'formula.txt, token 1: "P>=0.2" is PRISM\'s notation: here the formula is P <= 800000000 V 2 8 tt ! up',
     b"P>=0.99 [ F<=8.125 dead ]\n": 'formula.txt, token 1: "P>=0.99" lacks spaces: write P >= 990000000',
     b"P>=0.99 [ F<=8 gun|dead ]\n": 'formula.txt, token 1: "P>=0.99" lacks spaces: write P >= 990000000',
 }
@@ -367,7 +382,7 @@ class Formulas(unittest.TestCase):
     def test_what_is_offered_for_prism_is_accepted(self):
         """A formula that is told whole has a report, and is about the labels that were typed."""
         offered = [sentence.partition("here the formula is ")[2].encode() for sentence in PRISM.values()]
-        self.assertEqual(len(list(filter(None, offered))), 11)
+        self.assertEqual(len(list(filter(None, offered))), 14)
         for formula in filter(None, offered):
             self.assertIsInstance(refusal(MOVES, LABELS, formula + b"\n"), Job)
 
