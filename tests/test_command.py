@@ -1,6 +1,7 @@
 """The command `./sheetcheck`: what it prints, what it says and how it ends, of a report, a copy and a new sheet."""
 import os
 import re
+import resource
 import shutil
 import subprocess
 import tempfile
@@ -21,6 +22,7 @@ COMMAND = ROOT / "sheetcheck"
 START = EXAMPLES / "two-gauges"
 ANSWERED, TURNED_BACK, WRONG_USE, NOT_WHOLE = range(4)         # the status that the command ends with
 SAID = re.compile(r"sheetcheck: refused, since [a-z].*\.\n")
+LITTLE_STACK = 1 << 18      # bytes, which are enough for the shell and too few for the program's buffers
 NOT_WRITTEN = "sheetcheck: the answer could not be written whole\n"
 
 # For each number that three texts can be refused with, the example that document 01 gives beside it, and one for 16; 7 and 8 are never given.
@@ -211,9 +213,10 @@ class Unwritten(unittest.TestCase):
 
     def test_program_that_breaks_off(self):
         """With too little stack it is killed before it prints."""
-        limited = f"ulimit -s 64; exec {COMMAND} examples/redundant-string"
-        done = subprocess.run(["bash", "-c", limited], cwd=ROOT, capture_output=True)
-        self.assertEqual((done.stdout, done.returncode), (b"", NOT_WHOLE))
+        printed, said, status = command("examples/redundant-string", env={"PATH": os.environ["PATH"]},
+                                        preexec_fn=lambda: resource.setrlimit(resource.RLIMIT_STACK, (LITTLE_STACK, LITTLE_STACK)))
+        self.assertEqual((printed, status), (b"", NOT_WHOLE))
+        self.assertIn("the program broke off", said)
 
 
 class NewSheet(unittest.TestCase):
