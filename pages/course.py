@@ -19,11 +19,15 @@ Course = namedtuple("Course", "state points worst reached beginning")
 def span(path, rate):
     """The hundredths of an hour that a curve begins and ends at: from no time, or the first of two, to twice the question's, within the limits.
 
-    A question about 0 hours has its curve over the mean time until the fastest state is left.
+    A question about 0 hours has its curve over the mean time until the fastest state is left. That of one about one hour begins behind hour 0,
+    where a `V` is a `U` and its first operand does not count.
     """
-    begun = path.phases[0] if len(path.phases) == 2 and not is_at_one_hour(path) else 0
+    if is_at_one_hour(path):
+        begun = 1
+    else:
+        begun = path.phases[0] if len(path.phases) == 2 else 0
     wanted = 2 * path.times[-1] or RATE_HUNDREDTHS // rate
-    return begun, min(wanted, begun + most_hundredths(rate), MOST_HUNDREDTHS)
+    return begun, min(wanted, (0 if is_at_one_hour(path) else begun) + most_hundredths(rate), MOST_HUNDREDTHS)
 
 
 def hours_to_ask(path, rate):

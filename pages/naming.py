@@ -3,7 +3,8 @@ import re
 from collections import defaultdict
 
 STATES = "states.txt"
-NUMBERED = re.compile(r"([0-9]{1,9}): *(.*)")
+NUMBERED = re.compile(r"([0-9]{1,9})[:;,\t] *(.*)")
+AROUND = "\N{BYTE ORDER MARK}\",;\t\r "     # what a spreadsheet puts around a cell
 
 
 def printable(words):
@@ -18,10 +19,10 @@ def state_names(sheet):
         lines = (sheet / STATES).read_bytes().decode(errors="replace").split("\n")
     except OSError:
         return {}
-    numbered = [(place, line, NUMBERED.fullmatch(line.rstrip("\r"))) for place, line in enumerate(lines)]
+    numbered = [(place, line, NUMBERED.fullmatch(line.strip(AROUND))) for place, line in enumerate(lines)]
     names = defaultdict(list)
     for place, line, found in numbered:
-        state, words = (int(found[1]), found[2]) if found else (place, line)
+        state, words = (int(found[1]), found[2].strip(AROUND)) if found else (place, line)
         names[state] += filter(None, [printable(words)])
     return {state: " / ".join(found) for state, found in names.items() if found}
 

@@ -4,7 +4,7 @@ from decimal import Decimal
 from html import escape
 
 from reckoning.__main__ import FILES
-from reckoning.formula import Next, P, bounds
+from reckoning.formula import Label, Next, P, bounds, nodes
 from reckoning.limits import HOUR
 from reckoning.verdict import NO, UNDECIDED, YES
 from .asking import rows
@@ -18,6 +18,7 @@ from .picture import draw_for_page
 from .words import hours_words, question
 from .worst import from_the_worst, like_worst, order_words
 
+MOST_LISTED = 20            # states where a label holds
 SAID = re.compile(r"refused, since .*")
 
 
@@ -53,18 +54,32 @@ def question_part(sheet):
     typed = sheet.texts[2].decode().rstrip("\n")
     return section("question", "The question", [
         f'<p class="question">{coded(asked)}</p>', *(f"<p>{coded(words)}</p>" for words in inner),
-        f"<p>As typed: <code>{escape(typed, quote=False)}</code></p>",
+        f"<p>As typed: <code>{escape(typed, quote=False)}</code></p>", *(f"<p>{where_words(sheet, name)}</p>" for name in labels_of(sheet.tree)),
         "<p>The verdict of a state says whether this holds if things begin there.</p>"])
 
 
+def labels_of(tree):
+    """The labels that a formula asks about, each once."""
+    return list(dict.fromkeys(node.name.decode() for node in nodes(tree) if isinstance(node, Label)))
+
+
+def where_words(sheet, name):
+    """The states where a label holds."""
+    found = [state for state in range(sheet.chain.states) if name in sheet.labels_at(state)]
+    if not found:
+        return f"<code>{name}</code> holds in no state."
+    shown = ", ".join(map(str, found[:MOST_LISTED])) + (f" and {len(found) - MOST_LISTED} more" if len(found) > MOST_LISTED else "")
+    return f"<code>{name}</code> holds in state{'' if len(found) == 1 else 's'} {shown}."
+
+
 def answer_part(sheet, found):
-    """How many states say what, the worst of them, and state 0."""
+    """What state 0 says, how many states say what, and the worst of them."""
     count = {word: sum(row.verdict == word for row in found) for word in (YES, NO, UNDECIDED)}
     first = next(row for row in found if row.state == BEGINNING)
     return section("answer", "The answer", [
+        f'<p class="question">Things begin, by custom, in {told(sheet, BEGINNING)}{with_chance(sheet, first)}: {ending(first.verdict)}</p>',
         '<ul class="counts">' + "".join(f'<li class="{word}"><b>{count[word]}</b> {word}</li>' for word in count) + "</ul>",
         f"<p>{count_words(len(found), count)}</p>",
-        f"<p>Things begin, by custom, in {told(sheet, BEGINNING)}{with_chance(sheet, first)}: {ending(first.verdict)}</p>",
         f"<p>The worst is {told(sheet, found[0].state)}{with_chance(sheet, found[0])}: {ending(found[0].verdict)}{others_words(found)}</p>"])
 
 

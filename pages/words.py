@@ -49,6 +49,8 @@ class Telling:
     def path(self, path, at_any_time=False):
         if isinstance(path, Next):
             return "a next move comes" if path.operand == Tt() else NEXT + self.clause(path.operand)
+        if isinstance(path, Between) and path.earliest == path.latest > 0 and path.second == Tt():
+            return f"all through {hours_words(path.latest)} {self.within(path.first)}"
         told = f"{time_words(path, at_any_time)} {self.within(path.second)}"
         if path.first == Tt() or not path.times[-1]:
             return told

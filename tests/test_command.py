@@ -16,7 +16,7 @@ from reckoning.report import refused
 from reckoning.sheets import LABELS, MOVES, REPORT, moves_text
 from tests.edges import levels, load, loads, moves, small, typed
 from tests.places import EXAMPLES, PROGRAM, ROOT
-from tests.program import put
+from tests.program import put, run
 
 COMMAND = ROOT / "sheetcheck"
 START = EXAMPLES / "two-gauges"
@@ -78,6 +78,15 @@ class Command(unittest.TestCase):
 
     def test_says_nothing_of_a_report(self):
         self.assertEqual(command("examples/small"), (REPORT, "", ANSWERED))
+
+    def test_minds_thresholds(self):
+        """Those that look like a probability or a percentage; the report is what it is."""
+        for formula, noted in ((b"P >= 1 U 8 up dead", "1"), (b"P <= 98 X dead", "98"), (b"! & up P < 100 U 8 up P > 5000 X dead", "100"),
+                               (b"P >= 101 U 8 up dead", ""), (b"P > 0 U 1 up dead", ""), (b"P <= 10000000 U 99 up dead", "")):
+            printed, said, status = command_on(small(formula))
+            self.assertEqual((printed, status), (run(small(formula)), ANSWERED))
+            note = f"sheetcheck: note that thresholds are billionths: {noted} is next to nothing, and 0.01 is 10000000\n"
+            self.assertEqual(said, note if noted else "")
 
     def test_copies(self):
         """The moves of a folder, pairs rising and none twice; it needs no formula."""

@@ -9,6 +9,7 @@ from pathlib import Path
 from pages.course import hours_to_ask
 from pages.decimals import chance
 from pages.layout import cells_of, through
+from pages.naming import state_names
 from pages.words import question
 from reckoning.__main__ import read_texts
 from reckoning.formula import read_formula
@@ -31,6 +32,7 @@ WORDS = {
     "P > 5 U 8760 up ! dead": "With probability more than 0.000000005: within 8,760 hours `dead` does not hold, and until then `up` holds.",
     "P >= 990000000 V 2 8.25 power & collar gamma":
         "With probability at least 0.99: at some time from 2 to 8.25 hours `collar` and `gamma` hold, and until then `power` holds.",
+    "P >= 990000000 V 72 72 up tt": "With probability at least 0.99: all through 72 hours `up` holds.",
     "P >= 5 V 3 3 tt a": "With probability at least 0.000000005: at 3 hours exactly `a` holds.",
     "P >= 5 V 0 3 a b": "With probability at least 0.000000005: within 3 hours `b` holds, and until then `a` holds.",
     "P >= 5 U 0 a b": "With probability at least 0.000000005: within 0 hours, which is at once, `b` holds.",
@@ -207,6 +209,21 @@ class Rows(unittest.TestCase):
         page = Reader(asked(moves, labels, b"& ! dead P >= 333333334 X dead\n"))
         self.assertEqual([(state, verdict) for state, _, _, verdict in page.rows()], [(2, "no"), (1, "no"), (0, "undecided")])
 
+    def test_where_labels_hold(self):
+        told = example("gun-string").words("p")
+        self.assertIn("lost holds in states 8, 9, 10, 11.", told)
+        self.assertIn("power holds in states 0, 2, 4, 6, 8, 10.", told)
+        many = Reader(asked(NO_MOVES, labels_text([b"a", b"b", b"c"], [(1, 0, s == 3) for s in range(30)]), b"& a & b & c a\n")).words("p")
+        self.assertIn("a holds in states " + ", ".join(map(str, range(20))) + " and 10 more.", many)
+        self.assertIn("b holds in no state.", many)
+        self.assertIn("c holds in state 3.", many)
+
+    def test_names_from_a_spreadsheet(self):
+        """With quotes, separators and a byte order mark around them, or the number in a column of its own; a number twice shows both names."""
+        with tempfile.TemporaryDirectory() as folder:
+            (Path(folder) / "states.txt").write_bytes(b'\xef\xbb\xbf"0: both, good";;\r\n1;one out\r\n2,"none"\r\n1: twice\r\n')
+            self.assertEqual(state_names(Path(folder)), {0: "both, good", 1: "one out / twice", 2: "none"})
+
     def test_without_names(self):
         page = Reader(asked(MOVES, LABELS, b"P < 5 U 8 up dead\n"))
         self.assertEqual((page.all("td", "name"), len(page.rows())), ([], 2))
@@ -254,7 +271,7 @@ class Curve(unittest.TestCase):
         _, *last, _, verdict = LISTED.search(run((MOVES, LABELS, b"P >= 990000000 V 16 16 tt up\n")).decode()).groups()
         self.assertIn("P >= 990000000 V t t tt up", page.words("code"))
         [points] = self.curves(page)
-        self.assertEqual([points[0], points[-1]], [["0", "1000000000", "1000000000", "yes"], ["16", *last, verdict]])
+        self.assertEqual((points[0][0], points[-1]), ("0.01", ["16", *last, verdict]))
         self.assertTrue(any(words == "probability, from 0.99 on" for words in page.words("text")), page.words("text"))
 
     def test_hours(self):
@@ -262,7 +279,7 @@ class Curve(unittest.TestCase):
         for typed, rate, first, last in (("U 8.25", 500, 0, 1650), ("U 0", 500, 0, 200_000), ("U 1", MOST_RATE, 0, 100),
                                          ("U 8760", 1, 0, MOST_HUNDREDTHS), ("V 2 8.25", 500, 200, 1650), ("V 0 8.25", 500, 0, 1650),
                                          ("V 1 2", MOST_RATE, 100, 200),
-                                         ("V 1 1", MOST_RATE, 0, 100), ("V 72 72", 5, 0, 14_400), ("V 8760 8760", 1, 0, MOST_HUNDREDTHS),
+                                         ("V 1 1", MOST_RATE, 1, 100), ("V 72 72", 5, 1, 14_400), ("V 8760 8760", 1, 1, MOST_HUNDREDTHS),
                                          ("V 0 0", 500, 0, 200_000), ("U 0", MOST_RATE, 0, 1), ("U 0.01", 5, 0, 2)):
             with self.subTest(typed, rate=rate):
                 path = read_formula(f"P < 5 {typed} tt a\n".encode()).path

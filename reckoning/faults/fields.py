@@ -1,5 +1,6 @@
 """What is wrong with a field of a sheet that should be a number, a rate or a mark."""
 import re
+from math import floor
 
 from ..limits import MOST_RATE, RATE_HOURS, SHEET_DIGITS
 from ..texts import is_mark, is_number
@@ -9,6 +10,7 @@ from .words import counted, first, quoted
 
 STATE = "a state's number"
 RATE = "a rate in moves per million hours"
+POINT_AND_THREE = re.compile(rb"[1-9][0-9]{0,2}[.][0-9]{3}")
 MINUS = re.compile(rb"-[0-9.]+")
 
 
@@ -20,6 +22,8 @@ def number_fault(field, wanted):
 
 def mark_fault(field, name):
     """What is wrong with a field that is no mark; its column has this name."""
+    if not name:
+        return "this column has no name in the first line: give it one, or take the column out in every line"
     wanted = f"0 or 1 for {quoted(name)}"
     return saving_slip(field) or empty(field, wanted) or is_mark(field.strip()) and spaced(field, wanted) or no_mark(field, wanted)
 
@@ -49,19 +53,29 @@ def digits(field, wanted):
 
 
 def decimal(field, wanted):
-    """Decimals or an exponent. Of a rate it may be that moves per hour were meant."""
+    """Decimals or an exponent. A point before three digits may set thousands apart."""
     value = amount(field)
     if value is None:
         return ""
+    if POINT_AND_THREE.fullmatch(field):
+        return f"{quoted(field)} may be {field.replace(b'.', b'').decode()} or {trimmed(field)}: {wanted} is wanted, whole and without a point"
     if value.denominator == 1 and is_number(b"%d" % value.numerator, SHEET_DIGITS):
         return f"{quoted(field)} is not written as a whole number: write {value}"
-    words = f"{quoted(field)} is no whole number: {wanted} is wanted"
-    return words + per_hour(field, value) if wanted == RATE else words
+    return f"{quoted(field)} is no whole number: " + (rounding(value) if wanted == RATE else f"{wanted} is wanted")
 
 
-def per_hour(field, value):
-    rate = value * RATE_HOURS
-    return f" ({field.decode()} per hour is {rate})" if rate.denominator == 1 and 1 <= rate <= MOST_RATE else ""
+def rounding(value):
+    """How a rate is made whole. One below 1 may be meant per hour."""
+    down, per_million = floor(value), value * RATE_HOURS
+    if down:
+        return f"round it, a failure's rate up to {down + 1} and a repair's down to {down}"
+    hourly = f", or write {per_million} if it is per hour" if per_million.denominator == 1 and per_million <= MOST_RATE else ""
+    return f"a rate is moves per million hours, round it up to 1{hourly}"
+
+
+def trimmed(field):
+    """A number without the zeros at the end of its decimals."""
+    return field.rstrip(b"0").rstrip(b".").decode()
 
 
 def no_number(field, wanted):

@@ -1,6 +1,6 @@
 """Refusal 3: a first line, or a name in it, is wrong."""
 from ..limits import MOST_NAMES
-from ..texts import LABELS_FILE, LABELS_HEAD, MOVES_FILE, MOVES_HEAD, TRUE_WORD, fields, is_labels_head, is_move_line, is_word
+from ..texts import COMMA, LABELS_FILE, LABELS_HEAD, MOVES_FILE, MOVES_HEAD, TRUE_WORD, fields, is_labels_head, is_move_line, is_word
 from .names import name_fault
 from .saving import quotes, saving_slip, separators
 from .words import first, quoted, told
@@ -23,6 +23,8 @@ def wrong_heads(sheet):
 
 
 def other_moves_head(line):
+    if line.rstrip(COMMA) == MOVES_HEAD:
+        return f"{quoted(line)} has commas at its end: take them out, here and in every line"
     if is_move_line(line):
         return f"{quoted(line)} is a move: put the line {MOVES_HEAD.decode()} above it"
     return otherwise(line, MOVES_HEAD) + (EXCHANGED if is_labels_head(line) else "")

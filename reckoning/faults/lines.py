@@ -56,7 +56,8 @@ def line_slip(text):
 
 
 def empty(text):
-    return "" if text.strip() else "an empty line: take it out"
+    """Spreadsheets leave the separators of an empty row."""
+    return "" if text.strip(b" \t,;") else "an empty line: take it out"
 
 
 def comment(text):
@@ -75,7 +76,10 @@ def move_count_fault(parts):
 
 
 def decimal_comma(parts):
-    return ": a rate is whole, without a comma in it" if len(parts) == MOVE_FIELDS + 1 and all(part.isdigit() for part in parts) else ""
+    """Decimals behind a comma make a fourth field."""
+    if len(parts) != MOVE_FIELDS + 1 or not all(part.isdigit() for part in parts):
+        return ""
+    return f": if the rate is {parts[-2].decode()}.{parts[-1].decode()}, round it to a whole number"
 
 
 def state_count_fault(parts, names):
@@ -86,8 +90,9 @@ def state_count_fault(parts, names):
 
 
 def count_cure(parts, wanted):
-    """A comma too many at the end."""
-    return ": take out the comma at the end" if len(parts) == wanted + 1 and not parts[-1] else ""
+    """Commas too many at the end."""
+    more = len(parts) - wanted
+    return f": take out the comma{'' if more == 1 else 's'} at the end" if more > 0 and not any(parts[wanted:]) else ""
 
 
 def move_field_fault(parts):

@@ -8,6 +8,7 @@ from .words import first, quoted
 
 WANTED = f"a name is 1 to {MOST_LETTERS} letters a to z"
 NO_LETTER = re.compile(rb"[^a-z]")
+NOT_A_LETTER = re.compile(rb"[^A-Za-z]")        # whatever its size
 
 
 def name_fault(name):
@@ -38,4 +39,5 @@ def capitals(name):
 
 
 def other(name):
-    return f"{quoted(name)} has {quoted(NO_LETTER.search(name)[0])} in it, {WANTED}"
+    found = NOT_A_LETTER.search(name) or NO_LETTER.search(name)
+    return f"{quoted(name)} has {quoted(found[0])} in it, {WANTED}"

@@ -76,6 +76,8 @@ def probability(part):
     if value is None:
         return ""
     words = f"{quoted(part)} is not whole, {BILLIONTHS}: "
+    if value > 1 and value.denominator == 1 and value <= MOST_THRESHOLD:
+        return f"{quoted(part)} is not written as a whole number: write {value}"
     if value > 1:
         return f"{quoted(part)} is no threshold: {BILLIONTHS}, at most {MOST_THRESHOLD:,}, which is probability 1"
     down, rest = divmod(value * BILLION, 1)

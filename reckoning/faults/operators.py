@@ -19,6 +19,7 @@ WITHIN = re.compile(rb"([FG])[<>=\[]+([0-9.]*).*")
 SOME_HOURS = "8"            # in examples
 NOT_HERE = re.compile(rb"(?:S|R|Pmax|Pmin)(?:[<>=\[{].*)?")
 LETTER = re.compile(rb"[A-Za-z]")
+TRUE = b"true"
 BRACKETS = re.compile(rb"[\[\](){}]")
 STUCK = re.compile(rb"([!&]+)((?:[A-Za-z][!-~]*)?)")
 STUCK_BOUND = re.compile(rb"P(<=|>=|<|>)([^=\[\](){}][^\[\](){}]*)")
@@ -98,6 +99,12 @@ def capital(part):
 
 
 def no_formula(part):
+    if part.lower() == TRUE:
+        return f"{quoted(part)} is written tt here"
+    if b"," in part:
+        return f"{quoted(part)} has a comma in it: tokens are set apart by one space"
+    if b'"' in part and not is_word(part.strip(b'"')):
+        return f"{quoted(part)} has a quote in it: write the formula without quotes"
     if LETTER.search(part):
         return name_fault(part)
     return f"{quoted(part)} is no operator and no label: {BEGINNINGS} is wanted"

@@ -15,7 +15,7 @@ NUMBERS = set(range(1, 18)) - {7, 8}
 # What is typed below the first line of moves.txt.
 MOVE_LINES = {
     b"0,1\n": "moves.txt, line 2: 2 fields, a move has 3",
-    b"0,1,500\n0,1,5,6\n": "moves.txt, line 3: 4 fields, a move has 3: a rate is whole, without a comma in it",
+    b"0,1,500\n0,1,5,6\n": "moves.txt, line 3: 4 fields, a move has 3: if the rate is 5.6, round it to a whole number",
     b"0,1,64,000,000\n": "moves.txt, line 2: 5 fields, a move has 3: is 64000000 meant? write it without commas",
     b"0,1,500,\n": "moves.txt, line 2: 4 fields, a move has 3: take out the comma at the end",
     b"0 1 500\n": 'moves.txt, line 2: "0 1 500" has spaces: fields are set apart by commas',
@@ -38,12 +38,21 @@ MOVE_LINES = {
     b"0,1 ,500\n": 'moves.txt, line 2, field 2: "1 " has a space beside it: write 1',
     b"0,1,-500\n": 'moves.txt, line 2, field 3: "-500" is negative: a rate in moves per million hours is wanted',
     b"-1,0,5\n": 'moves.txt, line 2, field 1: "-1" is negative: a state\'s number is wanted',
-    b"0,1,0.0005\n": 'moves.txt, line 2, field 3: "0.0005" is no whole number: a rate in moves per million hours is wanted (0.0005 per hour is 500)',
-    b"0,1,5e-4\n": 'moves.txt, line 2, field 3: "5e-4" is no whole number: a rate in moves per million hours is wanted (5e-4 per hour is 500)',
+    b"0,1,0.0005\n":
+        'moves.txt, line 2, field 3: "0.0005" is no whole number: a rate is moves per million hours, round it up to 1, or write 500 if it is per hour',
+    b"0,1,5e-4\n":
+        'moves.txt, line 2, field 3: "5e-4" is no whole number: a rate is moves per million hours, round it up to 1, or write 500 if it is per hour',
+    b"0,1,3.3\n": 'moves.txt, line 2, field 3: "3.3" is no whole number: round it, a failure\'s rate up to 4 and a repair\'s down to 3',
+    b"0,1,1.000\n":
+        'moves.txt, line 2, field 3: "1.000" may be 1000 or 1: a rate in moves per million hours is wanted, whole and without a point',
+    b"0,1,41.666\n":
+        'moves.txt, line 2, field 3: "41.666" may be 41666 or 41.666: a rate in moves per million hours is wanted, whole and without a point',
+    b"0,1,5\n,,\n": "moves.txt, line 3: an empty line: take it out",
+    b"0,1,164,,\n": "moves.txt, line 2: 5 fields, a move has 3: take out the commas at the end",
     b"0,1,500.0\n": 'moves.txt, line 2, field 3: "500.0" is not written as a whole number: write 500',
     b"0,1,1_000_000_000\n": 'moves.txt, line 2, field 3: "1_000_000_000" is no number: a rate in moves per million hours is wanted',
     b"0,1,1,000,000,000\n": "moves.txt, line 2: 6 fields, a move has 3",
-    b"0,1,0.0000005\n": 'moves.txt, line 2, field 3: "0.0000005" is no whole number: a rate in moves per million hours is wanted',
+    b"0,1,0.0000005\n": 'moves.txt, line 2, field 3: "0.0000005" is no whole number: a rate is moves per million hours, round it up to 1',
     b"0.5,1,5\n": 'moves.txt, line 2, field 1: "0.5" is no whole number: a state\'s number is wanted',
     b"\"0\",\"1\",\"500\"\n": 'moves.txt, line 2: "\\"0\\",\\"1\\",\\"500\\"" has quotes: write the fields without them',
     b"0,1,500 # pump\n": 'moves.txt, line 2: "0,1,500 # pump" has "#" in it: a line has numbers alone, and no comment',
@@ -84,6 +93,9 @@ STATE_LINES = {
     b"state": "labels.txt, line 1: the line feed at the end is missing: press Enter at the end of the line and save",
     b"state,up\r\n0,1\r\n": "labels.txt, line 2: a carriage return, as Windows line ends have: save the file with Unix line ends (LF, not CRLF)",
     b"state\r0\r": "labels.txt, line 1: a carriage return, as Windows line ends have: save the file with Unix line ends (LF, not CRLF)",
+    b"state,up,\n0,1,\n":
+        "labels.txt, line 2, field 3: this column has no name in the first line: give it one, or take the column out in every line",
+    b"state,up\n0,1\n,\n": "labels.txt, line 3: an empty line: take it out",
     b"state,up\n0, 1\n": 'labels.txt, line 2, field 2: " 1" has a space beside it: write 1',
     b"state,up\n0, 2\n": 'labels.txt, line 2, field 2: " 2" is no mark: 0 or 1 for "up" is wanted',
     b"state,Up\n0,x\n": 'labels.txt, line 2, field 2: "x" is no mark: 0 or 1 for "Up" is wanted',

@@ -127,7 +127,11 @@ OPERATORS = {
     b"is_up\n": 'formula.txt, token 1: "is_up" has "_" in it, a name is 1 to 12 letters a to z',
     b"abcdefghijklm\n": 'formula.txt, token 1: "abcdefghijklm" has 13 letters, a name is 1 to 12 letters a to z',
     b"\"up\"\n": 'formula.txt, token 1: "\\"up\\"" has quotes: write up',
-    b"up,dead\n": 'formula.txt, token 1: "up,dead" has "," in it, a name is 1 to 12 letters a to z',
+    b"up,dead\n": 'formula.txt, token 1: "up,dead" has a comma in it: tokens are set apart by one space',
+    b"P,<,5,X,up\n": 'formula.txt, token 1: "P,<,5,X,up" has a comma in it: tokens are set apart by one space',
+    b"\"P < 5 X up\"\n": 'formula.txt, token 1: "\\"P" has a quote in it: write the formula without quotes',
+    b"TRUE\n": 'formula.txt, token 1: "TRUE" is written tt here',
+    b"Is_up\n": 'formula.txt, token 1: "Is_up" has "_" in it, a name is 1 to 12 letters a to z',
     b"dead;\n": 'formula.txt, token 1: "dead;" has ";" in it, a name is 1 to 12 letters a to z',
     b"%\n": 'formula.txt, token 1: "%" is no operator and no label: a label, tt, !, & or P is wanted',
     b"P>=\n": 'formula.txt, token 1: "P>=" lacks a space: write P >=',
@@ -165,8 +169,7 @@ THRESHOLDS = {
         'formula.txt, token 3: "0.99999999999" is not whole, thresholds are whole billionths: it lies between 999999999 and 1000000000',
     b"P < 1.5 U 8 up dead\n":
         'formula.txt, token 3: "1.5" is no threshold: thresholds are whole billionths, at most 1,000,000,000, which is probability 1',
-    b"P < 5.0 U 8 up dead\n":
-        'formula.txt, token 3: "5.0" is no threshold: thresholds are whole billionths, at most 1,000,000,000, which is probability 1',
+    b"P < 2E+07 U 8 up dead\n": 'formula.txt, token 3: "2E+07" is not written as a whole number: write 20000000',
     b"P < 150% U 8 up dead\n":
         'formula.txt, token 3: "150%" is no threshold: thresholds are whole billionths, at most 1,000,000,000, which is probability 1',
     b"P < 0990000000 U 8 up dead\n": 'formula.txt, token 3: "0990000000" begins with a zero: write 990000000',
