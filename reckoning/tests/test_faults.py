@@ -39,7 +39,8 @@ MOVE_LINES = {
     b"0,1,-500\n": 'moves.txt, line 2, field 3: "-500" is negative: a rate in moves per million hours is wanted',
     b"-1,0,5\n": 'moves.txt, line 2, field 1: "-1" is negative: a state\'s number is wanted',
     b"0,1,0.0005\n":
-        'moves.txt, line 2, field 3: "0.0005" is no whole number: a rate is moves per million hours, round it up to 1, or write 500 if it is per hour',
+        'moves.txt, line 2, field 3: "0.0005" is no whole number: a rate is moves per million hours, round it up to 1, '
+        "or write 500 if it is per hour",
     b"0,1,5e-4\n":
         'moves.txt, line 2, field 3: "5e-4" is no whole number: a rate is moves per million hours, round it up to 1, or write 500 if it is per hour',
     b"0,1,3.3\n": 'moves.txt, line 2, field 3: "3.3" is no whole number: round it, a failure\'s rate up to 4 and a repair\'s down to 3',
