@@ -1,7 +1,5 @@
 """A sheet's question put for other hours: those of an until are replaced; of a `V` the second time, and both where it asks about one hour."""
-from reckoning.formula import Between, spelled
-
-FIRST_TIME = 4              # the word that the times of a `P` begin with: they stand behind its comparison, its threshold and a letter
+from reckoning.formula import TO_TIMES, Between, spelled
 
 
 def is_at_one_hour(path):
@@ -13,7 +11,7 @@ def put(until, hours):
     """The text of a `P` with another word for its hours."""
     words, times = spelled(until).decode().split(" "), len(until.path.times)
     kept = 0 if is_at_one_hour(until.path) else times - 1
-    words[FIRST_TIME + kept:FIRST_TIME + times] = [hours] * (times - kept)
+    words[TO_TIMES + kept:TO_TIMES + times] = [hours] * (times - kept)
     return " ".join(words)
 
 

@@ -96,6 +96,9 @@ class P:
     path: object
 
 
+# How far behind its `P` the first of the times stands: behind the comparison, the threshold and a letter.
+TO_TIMES = 4
+
 # The path formulas with times, and how many of these each has.
 TIMED = {Until.letter: (Until, 1), Between.letter: (Between, 2)}
 

@@ -62,6 +62,7 @@ class Places(unittest.TestCase):
                 for sentence in sentences:
                     self.assertRegex(sentence, f"^{SENTENCE.pattern}$")
                     self.assertTrue(sentence.isascii() and sentence.isprintable())
+                    self.assertNotIn("None", sentence)
         self.assertEqual({number for number, *_ in self.refused}, {1, 2, 3, 4, 5, 6, 9, 10, 11, 12, 13, 14, 16})
 
     def test_what_is_named_is_there(self):

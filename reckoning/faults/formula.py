@@ -2,20 +2,16 @@
 from collections import namedtuple
 from difflib import get_close_matches
 
-from ..formula import And, Label, Not, P, hours_text, nodes, operands, state_head, tokens_of
+from ..formula import TO_TIMES, And, Label, Not, P, hours_text, nodes, operands, state_head, tokens_of
 from ..limits import HOUR, MOST_HUNDREDTHS, MOST_LEVELS, MOST_NODES, MOST_THRESHOLD, most_hundredths
 from ..texts import FORMULA_FILE
+from .names import CONSTANTS
 from .words import listed, quoted, told
 
 # A state formula, the token that it begins with, counted from 1, that of the one whose operand it is, 0 for none, and how deep it is nested.
 Placed = namedtuple("Placed", "token above level node")
 
-# How far behind its `P` the threshold and the first of the times stand.
-TO_THRESHOLD = 2
-TO_TIMES = 4
-
-# Words that other notations have, and what they are here.
-MEANT = {b"true": "write tt, which holds in every state", b"false": "write ! tt, which holds in no state"}
+TO_THRESHOLD = 2            # how far behind its `P` the threshold stands
 
 
 def placed(tree):
@@ -66,10 +62,15 @@ def unknown_name(job):
 def meant(name, names):
     """What may be meant by an unknown name."""
     if not names:
-        return ", labels.txt has none" + (f": {MEANT[name]}" if name in MEANT else "")
+        return f", labels.txt has none{constant_cure(name)}"
     near = get_close_matches(name.decode(), [each.decode() for each in names], 1)
-    cure = MEANT.get(name) or (f"is {near[0]} meant?" if near else "")
-    return f", labels.txt has {listed(names)}" + (f": {cure}" if cure else "")
+    cure = constant_cure(name) or (f": is {near[0]} meant?" if near else "")
+    return f", labels.txt has {listed(names)}{cure}"
+
+
+def constant_cure(name):
+    """What is said of a word that other notations have; nothing of other words."""
+    return f": write {CONSTANTS[name]}" if name in CONSTANTS else ""
 
 
 def large_number(job):

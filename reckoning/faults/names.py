@@ -7,8 +7,11 @@ from .saving import saving_slip
 from .words import first, quoted
 
 WANTED = f"a name is 1 to {MOST_LETTERS} letters a to z"
-NO_LETTER = re.compile(rb"[^a-z]")
-NOT_A_LETTER = re.compile(rb"[^A-Za-z]")        # whatever its size
+NOT_SMALL = re.compile(rb"[^a-z]")
+NO_LETTER = re.compile(rb"[^A-Za-z]")
+
+# What other notations have for what always holds and what never does, and how that is written here.
+CONSTANTS = {b"true": "tt", b"false": "! tt"}
 
 
 def name_fault(name):
@@ -21,7 +24,7 @@ def empty(name):
 
 
 def long(name):
-    return "" if NO_LETTER.search(name) else f"{quoted(name)} has {len(name)} letters, {WANTED}"
+    return "" if NOT_SMALL.search(name) else f"{quoted(name)} has {len(name)} letters, {WANTED}"
 
 
 def spaced(name):
@@ -39,5 +42,5 @@ def capitals(name):
 
 
 def other(name):
-    found = NOT_A_LETTER.search(name) or NO_LETTER.search(name)
+    found = NO_LETTER.search(name) or NOT_SMALL.search(name)
     return f"{quoted(name)} has {quoted(found[0])} in it, {WANTED}"

@@ -4,7 +4,7 @@ import re
 from ..formula import COMPARISONS, TIMED, Between, Next, Until
 from ..texts import is_word
 from .amounts import amount, as_hours, rising
-from .names import name_fault
+from .names import CONSTANTS, name_fault
 from .numbers import ASKED, GLUED, UNITS, threshold_meant
 from .words import first, quoted
 
@@ -19,7 +19,6 @@ WITHIN = re.compile(rb"([FG])[<>=\[]+([0-9.]*).*")
 SOME_HOURS = "8"            # in examples
 NOT_HERE = re.compile(rb"(?:S|R|Pmax|Pmin)(?:[<>=\[{].*)?")
 LETTER = re.compile(rb"[A-Za-z]")
-TRUE = b"true"
 BRACKETS = re.compile(rb"[\[\](){}]")
 STUCK = re.compile(rb"([!&]+)((?:[A-Za-z][!-~]*)?)")
 STUCK_BOUND = re.compile(rb"P(<=|>=|<|>)([^=\[\](){}][^\[\](){}]*)")
@@ -44,7 +43,8 @@ def stray_number(tokens, at):
         return f"{quoted(part)} is a number: X has no hours, as in P <= 10000000 X dead"
     if before[-2:-1] == [Until.letter]:
         earlier, later = rising(before[-1], part)
-        return f"{quoted(part)} is a second time, U has one: from {earlier} to {later} hours is V {earlier} {later}"
+        cure = f"from {earlier} to {later} hours is V {earlier} {later}" if earlier and later else "V has two, as in V 2 8.25 up dead"
+        return f"{quoted(part)} is a second time, U has one: {cure}"
     if before[-3:-2] == [Between.letter]:
         return f"{quoted(part)} is a third time, V has two, as in V 2 8.25 up dead"
     return f"{quoted(part)} is a number: {BEGINNINGS} is wanted"
@@ -99,8 +99,8 @@ def capital(part):
 
 
 def no_formula(part):
-    if part.lower() == TRUE:
-        return f"{quoted(part)} is written tt here"
+    if part.lower() in CONSTANTS:
+        return f"{quoted(part)} is written {CONSTANTS[part.lower()]} here"
     if b"," in part:
         return f"{quoted(part)} has a comma in it: tokens are set apart by one space"
     if b'"' in part and not is_word(part.strip(b'"')):

@@ -4,13 +4,13 @@ import re
 from ..formula import read_formula
 from ..limits import BILLION
 from .amounts import as_hours, as_threshold
+from .names import CONSTANTS
 
 OPERAND = rb"""(?P<%s>!?\ *"?[a-z]+"?)"""
 TIMES = rb"""<=?\ *(?P<time>[0-9.]+) | =\ *(?P<at>[0-9.]+) | \[(?P<earliest>[0-9.]+),\ *(?P<latest>[0-9.]+)\]"""
 PRISM = re.compile(rb"""P\ *(?P<comparison><=|>=|<|>|=\?)\ *(?P<threshold>[0-9.]*)\ *
                         \[\ *(?:%s\ +)?(?P<letter>[UFGX])\ *(?:%s)?\ *%s\ *\]\s*"""
                    % (OPERAND % b"first", TIMES, OPERAND % b"second"), re.VERBOSE)
-MEANT = {"true": "tt", "false": "! tt"}
 OPPOSITE = {">=": "<=", ">": "<", "<=": ">=", "<": ">"}
 BY_MOVES = ("P > 0", "P <= 0")      # what is possible at any time is so within any time above 0: an hour stands for all
 
@@ -78,8 +78,8 @@ def times_of(found):
 
 def operand(typed):
     """A label, perhaps in quotes, perhaps behind `!`."""
-    word = typed.decode().strip("!\" ")
-    plain = MEANT.get(word, word)
+    word = typed.strip(b"!\" ")
+    plain = CONSTANTS.get(word) or word.decode()
     return negated(plain) if typed.startswith(b"!") else plain
 
 

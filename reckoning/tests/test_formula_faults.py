@@ -119,6 +119,7 @@ OPERATORS = {
     b"& up 0.5\n": 'formula.txt, token 3: "0.5" is a number: a label, tt, !, & or P is wanted',
     b"P < 5 U 1 8 up dead\n": 'formula.txt, token 6: "8" is a second time, U has one: from 1 to 8 hours is V 1 8',
     b"P < 5 U 90 1 up dead\n": 'formula.txt, token 6: "1" is a second time, U has one: from 1 to 90 hours is V 1 90',
+    b"P < 5 U 8 8.125 up dead\n": 'formula.txt, token 6: "8.125" is a second time, U has one: V has two, as in V 2 8.25 up dead',
     b"P < 5 V 1 8 9 up dead\n": 'formula.txt, token 7: "9" is a third time, V has two, as in V 2 8.25 up dead',
     b"P < 5 X 8 dead\n": 'formula.txt, token 5: "8" is a number: X has no hours, as in P <= 10000000 X dead',
     b"Up\n": 'formula.txt, token 1: "Up" has capitals, a name is 1 to 12 letters a to z: write up',
@@ -288,9 +289,9 @@ NAMES = {
     b"gas\n": 'formula.txt, token 1: no label "gas", labels.txt has up and dead',
     b"ded\n": 'formula.txt, token 1: no label "ded", labels.txt has up and dead: is dead meant?',
     b"& up daed\n": 'formula.txt, token 3: no label "daed", labels.txt has up and dead: is dead meant?',
-    b"true\n": 'formula.txt, token 1: no label "true", labels.txt has up and dead: write tt, which holds in every state',
-    b"P < 5 U 8 true dead\n": 'formula.txt, token 6: no label "true", labels.txt has up and dead: write tt, which holds in every state',
-    b"false\n": 'formula.txt, token 1: no label "false", labels.txt has up and dead: write ! tt, which holds in no state',
+    b"true\n": 'formula.txt, token 1: no label "true", labels.txt has up and dead: write tt',
+    b"P < 5 U 8 true dead\n": 'formula.txt, token 6: no label "true", labels.txt has up and dead: write tt',
+    b"false\n": 'formula.txt, token 1: no label "false", labels.txt has up and dead: write ! tt',
     b"state\n": 'formula.txt, token 1: no label "state", labels.txt has up and dead',
 }
 
@@ -342,7 +343,7 @@ WHOLE_JOBS = {
     12: {
         (MOVES, labels_text([], [[], []]), b"up\n"): 'formula.txt, token 1: no label "up", labels.txt has none',
         (MOVES, labels_text([], [[], []]), b"true\n"):
-            'formula.txt, token 1: no label "true", labels.txt has none: write tt, which holds in every state',
+            'formula.txt, token 1: no label "true", labels.txt has none: write tt',
         (NO_MOVES, labels_text([b"up"], [[1]]), b"& up hot\n"): 'formula.txt, token 3: no label "hot", labels.txt has up',
         (NO_MOVES, labels_text([b"up", b"hot", b"dead"], [[1, 1, 0]]), b"P < 5 V 1 8 up wet\n"):
             'formula.txt, token 8: no label "wet", labels.txt has up, hot and dead',
