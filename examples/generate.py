@@ -67,6 +67,11 @@ def restarted(units, upset, restart):
     return Part(range(units, -1, -1), moves)
 
 
+def all_of(first, *others):
+    """A formula that holds where each of these does."""
+    return f"& {first} {all_of(*others)}" if others else first
+
+
 def per_million_hours(rate, unit):
     """A rate per time unit of so many hours, as moves per million hours; it must come out whole."""
     scaled = Fraction(rate) * RATE_HOURS / Fraction(unit)
@@ -160,6 +165,25 @@ def redundant_string(formula):
     return Sheet(*joined(parts), labels, formula, told_parts)
 
 
+def fit_to_run(*rules):
+    """A logging string in which every part is there twice, and rules that all have to hold before it is run."""
+    parts = {
+        "supplies": running(2, 80),
+        "modems": in_reserve(2, 250),
+        "coils": running(2, 400),
+        "detectors": restarted(2, 1_500, 200_000),
+    }
+    labels = {
+        "power": lambda s: s.supplies >= 1,
+        "modem": lambda s: s.modems >= 1,
+        "collar": lambda s: s.coils >= 1,
+        "gamma": lambda s: s.detectors >= 1,
+        "sparepower": lambda s: s.supplies == 2,
+        "sparemodem": lambda s: s.modems == 2,
+    }
+    return Sheet(*joined(parts), labels, all_of(*rules), told_parts)
+
+
 def tandem(capacity, formula):
     """Two queues in a row, each of so many jobs; the first server works in one phase or two. A time unit is an hour."""
     arrive, direct, second_phase, leave_second, serve = (
@@ -239,6 +263,9 @@ SHEETS = {
     "not-before-settled": gun_string("P >= 990000000 V 2 8.25 power & collar gamma"),
     "redundant-string": redundant_string("P <= 150000000 U 72 & power modem P > 2000000 U 8 & power modem ! depth"),
     "whole-again": redundant_string("P > 0 U 0.25 & power modem whole"),
+    "fit-to-run": fit_to_run("P <= 10000 U 12 tt & ! collar ! gamma", "P <= 1000000 U 12 tt ! power", "P <= 5000000 U 12 tt ! modem",
+                             "P <= 10000000 U 12 tt ! collar", "P <= 10000000 U 12 tt ! gamma", "! & ! sparepower ! sparemodem",
+                             "P >= 999000000 V 2 12 & power modem & collar gamma"),
     "tandem-2": tandem(2, "P < 50000000 U 2 tt full"),
     "tandem-5": tandem(5, "P >= 900000000 U 2 ! full P < 7500000 U 2 tt full"),
     "polling-3": polling(3, Fraction(1000, 3), "! & busyone ! P >= 900000000 U 100 tt pollone"),

@@ -20,11 +20,12 @@ extern "C" {
 #endif
 
 /* Lengths that are enough for every job. Of a job with n states, m move lines and k nodes in its formula the results (lower, upper,
- * verdicts and order) need n elements each, the words 2 * m, the vectors 10 * n + 512 and the marks k * n; with less it is refused with 15. */
+ * verdicts and order) need n elements each, the words 2 * m, the vectors 10 * n + 512 and the marks 17 * n, or k * n where that is less;
+ * a job that is lent less than it needs is refused with 15. */
 #define SEBDYQUL_RESULTS 512
 #define SEBDYQUL_WORDS 8192
 #define SEBDYQUL_VECTORS 5632
-#define SEBDYQUL_MARKS 32768
+#define SEBDYQUL_MARKS 8704
 
 /* A length that is enough for every copy; no copy is longer than the moves text that it is made of. */
 #define SEBDYQUL_COPY 61440

@@ -4,11 +4,11 @@
 //! that is written to overlaps another. So no call of `check` or `copy` can be a wrong one.
 
 /// Lengths that are enough for every job. A job with n states, m move lines and k nodes in its formula needs n results (lower, upper,
-/// verdicts and order), 2 × m words, 10 × n + 512 vectors and k × n marks.
+/// verdicts and order), 2 × m words, 10 × n + 512 vectors and 17 × n marks, or k × n where that is less.
 pub const RESULTS: usize = 512;
 pub const WORDS: usize = 8_192;
 pub const VECTORS: usize = 5_632;
-pub const MARKS: usize = 32_768;
+pub const MARKS: usize = 8_704;
 
 /// A length that is enough for every copy; no copy is longer than the moves text that it is made of.
 pub const COPY: usize = 61_440;
@@ -111,8 +111,12 @@ mod tests {
     const JOB: [&[u8]; 3] = [b"from,to,rate\n0,1,500\n", b"state,up,dead\n0,1,0\n1,0,1\n", b"P < 1 U 8.25 up dead\n"];
     const NEEDED: [usize; 7] = [2, 2, 2, 2, 2, 532, 6];
 
-    /// What the job ends with where so many elements of each buffer are lent, and what its order buffer then holds.
-    fn checked(lent: [usize; 7]) -> (Answer, Vec<u16>) {
+    /// The same sheet with 20 nodes, which need as many marks as 17 do.
+    const MANY_NODES: [&[u8]; 3] = [JOB[0], JOB[1], b"& up & up & up & up & up & up & up & up & up ! dead\n"];
+    const MANY_NEEDED: [usize; 7] = [2, 2, 2, 2, 2, 532, 34];
+
+    /// What a job ends with where so many elements of each buffer are lent, and what its order buffer and its marks then hold.
+    fn checked(job: [&[u8]; 3], lent: [usize; 7]) -> (Answer, Vec<u16>, Vec<u8>) {
         let [mut lower, mut upper] = [vec![7; lent[0]], vec![7; lent[1]]];
         let [mut verdicts, mut marks] = [vec![7; lent[2]], vec![7; lent[6]]];
         let mut order = vec![7; lent[3]];
@@ -126,13 +130,13 @@ mod tests {
             vectors: &mut vectors,
             marks: &mut marks,
         };
-        let [moves, labels, formula] = JOB;
-        (check(moves, labels, formula, lent), order)
+        let [moves, labels, formula] = job;
+        (check(moves, labels, formula, lent), order, marks)
     }
 
     #[test]
     fn exactly_what_is_needed_will_do() {
-        assert_eq!(checked(NEEDED).0, Answer::Accepted { depth: 42 });
+        assert_eq!(checked(JOB, NEEDED).0, Answer::Accepted { depth: 42 });
     }
 
     #[test]
@@ -140,14 +144,24 @@ mod tests {
         for at in 0..NEEDED.len() {
             let mut short = NEEDED;
             short[at] -= 1;
-            assert_eq!(checked(short).0, Answer::Refused(15), "{short:?}");
+            assert_eq!(checked(JOB, short).0, Answer::Refused(15), "{short:?}");
         }
     }
 
     #[test]
+    fn seventeen_marks_for_each_state_will_do() {
+        let [mut short, mut long] = [MANY_NEEDED; 2];
+        short[6] -= 1;
+        long[6] += 6;
+        assert_eq!(checked(MANY_NODES, MANY_NEEDED), (Answer::Accepted { depth: 0 }, vec![0, 1], vec![0; 34]));
+        assert_eq!(checked(MANY_NODES, long), (Answer::Accepted { depth: 0 }, vec![0, 1], [vec![0; 34], vec![7; 6]].concat()));
+        assert_eq!(checked(MANY_NODES, short), (Answer::Refused(15), vec![7; 2], vec![7; 33]));
+    }
+
+    #[test]
     fn the_worst_state_stands_first() {
-        assert_eq!(checked([2, 2, 2, 4, 2, 532, 6]).1, [1, 0, 7, 7]);
-        assert_eq!(checked([1, 2, 2, 4, 2, 532, 6]).1, [7; 4]);
+        assert_eq!(checked(JOB, [2, 2, 2, 4, 2, 532, 6]).1, [1, 0, 7, 7]);
+        assert_eq!(checked(JOB, [1, 2, 2, 4, 2, 532, 6]).1, [7; 4]);
     }
 
     /// Moves as they were added one after the other, and their clean copy.

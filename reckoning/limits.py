@@ -62,6 +62,9 @@ MOVE_PLACES = 2
 VECTOR_PLACES = 10
 VECTOR_SPARE = 512
 
+# "mark bytes of 17 × n, or nodes × n where that is less, shall be enough"
+MOST_ROWS = 17
+
 
 def most_hundredths(rate, product=MOST_RATE_HUNDREDTHS):
     """The most hundredths of an hour for which a greatest exit rate times them stays within a limit."""

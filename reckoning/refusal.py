@@ -7,7 +7,7 @@ from . import formula as f
 from . import texts
 from .chain import Chain
 from .limits import (FORMULA_BYTES, VECTOR_SPARE, MOST_HUNDREDTHS, MOST_LEVELS, MOST_MOVES, MOST_NODES, MOST_RATE, MOST_RATE_HUNDREDTHS,
-                     MOST_STATES, MOST_THRESHOLD, MOVE_PLACES, SHEET_BYTES, VECTOR_PLACES)
+                     MOST_ROWS, MOST_STATES, MOST_THRESHOLD, MOVE_PLACES, SHEET_BYTES, VECTOR_PLACES)
 
 Lent = namedtuple("Lent", "lower upper verdicts order moves vectors marks")
 
@@ -139,7 +139,7 @@ def large_load(job):
 def lengths(states, moves, nodes):
     """The seven lengths that the caller lends for so many states, move lines and nodes."""
     return Lent(lower=states, upper=states, verdicts=states, order=states, moves=MOVE_PLACES * moves,
-                vectors=VECTOR_PLACES * states + VECTOR_SPARE, marks=nodes * states)
+                vectors=VECTOR_PLACES * states + VECTOR_SPARE, marks=min(MOST_ROWS, nodes) * states)
 
 
 def needed(job):

@@ -27,9 +27,10 @@ CopyMemory = namedtuple("CopyMemory", "copy length")
 COPY_KINDS = CopyMemory(copy=BYTE, length=WORD)
 
 ENOUGH = lengths(MOST_STATES, MOST_MOVES, MOST_NODES)           # for every job
+ROOM = ENOUGH._replace(marks=MOST_NODES * MOST_STATES)          # what there is to lend: a mark byte for each node and state, more than is needed
 COPY = SHEET_BYTES          # bytes that are enough for every copy
 GUARD = 67                  # elements, an odd number: no lent part is aligned for more than its own type
-MORE = 64                   # elements that can be lent beyond `ENOUGH`
+MORE = 64                   # elements that can be lent beyond `ROOM`
 PATTERN = 1 << 20           # bytes
 TEXT = 1 << 20              # bytes that a text may have
 
@@ -88,7 +89,7 @@ class Library:
         self.function = self.declared("sebdyqul_check", 3 + len(ENOUGH))
         self.copying = self.declared("sebdyqul_copy", 3)
         self.texts = [Fenced(TEXT) for _ in range(3)]
-        self.memory = Memory(*(Buffer(kind, most + MORE) for kind, most in zip(KINDS, (*ENOUGH, 0))))
+        self.memory = Memory(*(Buffer(kind, most + MORE) for kind, most in zip(KINDS, (*ROOM, 0))))
         self.copy_memory = CopyMemory(*(Buffer(kind, most + MORE) for kind, most in zip(COPY_KINDS, (COPY, 0))))
         self.rng = random.Random(seed)
         self.pattern = self.rng.randbytes(PATTERN)

@@ -5,7 +5,7 @@ Unlike `jobs.damaged`, which breaks the layout more often than not, most of thes
 import re
 from collections import Counter
 
-from reckoning.formula import COMPARISONS, hours_text
+from reckoning.formula import COMPARISONS, hours_text, nodes
 from reckoning.graph import EXTREMES
 from reckoning.limits import (BILLION, FORMULA_DIGITS, HOUR, MOST_HUNDREDTHS, MOST_MOVES, MOST_NODES, MOST_RATE, MOST_STATES, RATE_HOURS,
                               SPARE_STEPS)
@@ -156,11 +156,12 @@ def bent_job(rng):
 
 
 def some_lent(rng, job):
-    """Lent lengths for a job: just enough, one short, half of it, long, or anything."""
+    """Lent lengths for a job: just enough, one short, half of it, long, a mark byte for each node and state, or anything."""
     reckoned = refusal(*job)
     if isinstance(reckoned, int) or rng.random() < 0.1:
         return Lent(*(rng.choice([0, 1, rng.randint(0, most), most]) for most in ENOUGH))
     exact, name = needed(reckoned), rng.choice(Lent._fields)
     need = getattr(exact, name)
-    other = rng.choice([need - 1, need // 2, need + 1, need + MORE])
+    more = [len(nodes(reckoned.tree)) * reckoned.chain.states] if name == "marks" else []
+    other = rng.choice([need - 1, need // 2, need + 1, need + MORE, *more])
     return rng.choice([exact, exact._replace(**{name: max(0, other)}), Lent(*(most + MORE for most in ENOUGH))])

@@ -13,6 +13,7 @@ from tests import copies
 from tests.agreement import library_faults, printed, tried
 from tests.jobs import damaged_job, random_job
 from tests.library import ENOUGH
+from tests.many_nodes import many_nodes_job
 from tests.mutations import bent_job, mutated, some_lent
 from tests.places import COPIER
 from tests.possible import drawn_job
@@ -28,8 +29,8 @@ Ended = namedtuple("Ended", "counts job lent faults")
 
 
 def some_job(rng):
-    """A made job, small or larger, one that asks what is possible or certain, a damaged or a bent one, or one made of two."""
-    kind = rng.randrange(12)
+    """A made job, small or larger or of many nodes, one that asks what is possible or certain, a damaged or a bent one, or one made of two."""
+    kind = rng.randrange(13)
     if kind == 0:
         return random_job(rng, most_states=24, levels=3, most_load=MOST_LOAD)
     if kind <= 2:
@@ -38,7 +39,9 @@ def some_job(rng):
         return drawn_job(rng)
     if kind <= 6:
         return damaged_job(rng)
-    return bent_job(rng) if kind <= 9 else mutated(rng, random_job(rng), random_job(rng))
+    if kind == 7:
+        return many_nodes_job(rng)
+    return bent_job(rng) if kind <= 10 else mutated(rng, random_job(rng), random_job(rng))
 
 
 def program_faults(job, called):

@@ -72,6 +72,16 @@ class Falsified(unittest.TestCase):
         told = library_faults(ACCEPTED, self.accepted._replace(after=self.accepted.after._replace(moves=half)))
         self.assertEqual(told, ["moves or a guard of it is not as it should be"])
 
+    def test_marks_beyond_17_for_each_state(self):
+        """A mark byte for each node and state set to 0, and not 17 for each state."""
+        nodes, states = 31, 3
+        many = *SHEET, b"& up " * (nodes // 2) + b"up\n"
+        called = self.library.check(many)
+        self.assertEqual(library_faults(many, called), [])
+        zeros = called.after.marks[:GUARD] + bytes(nodes * states) + called.after.marks[GUARD + nodes * states:]
+        told = library_faults(many, called._replace(after=called.after._replace(marks=zeros)))
+        self.assertEqual(told, ["marks or a guard of it is not as it should be"])
+
     def test_orders(self):
         """The states are 2, 1, 0 from the worst on, or 0, 1, 2 where the first two are equal: every other order is told, and a state that is none."""
         for job, right in ((ACCEPTED, (2, 1, 0)), (TIES, (0, 1, 2))):

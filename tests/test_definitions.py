@@ -9,12 +9,15 @@ from reckoning.copying import BY_SHEET, SHORT_COPY, copied
 from reckoning.ends import Rules
 from reckoning.formula import hours_text
 from reckoning.judge import report_depth
-from reckoning.limits import BILLION, HOUR, MOST_HUNDREDTHS, MOST_LEVELS, MOST_RATE, MOST_STATES, RATE_HOURS, SHEET_BYTES
+from reckoning.limits import BILLION, HOUR, MOST_HUNDREDTHS, MOST_LEVELS, MOST_NODES, MOST_RATE, MOST_STATES, RATE_HOURS, SHEET_BYTES
 from reckoning.refusal import BY_TEXTS, SHORT, Job, lengths, refusal
 from reckoning.report import Row, worst_first
 from reckoning.sheets import FULL_MOVES, LABELS, MOVES, MOVES_LINE, NO_MOVES, between, labels_text, moves_text, until
 from reckoning.verdict import WORDS
 from tests import definitions
+from tests.edges import nodes
+
+MOST = nodes(MOST_NODES)[2]             # a formula of as many nodes as there may be
 
 # moves, labels, formula, lent lengths
 JOBS = (
@@ -58,6 +61,10 @@ JOBS = (
     (moves_text([(0, 1, RATE_HOURS)]), LABELS, until(6_325), lengths(2, 1, 3)),
     (MOVES, LABELS, b"P > 0 U 0.01 up P >= 1000000000 X dead\n", lengths(2, 1, 4)),
     (MOVES, LABELS, until(HOUR), lengths(2, 1, 3)._replace(marks=5)),
+    *((MOVES, LABELS, b"& up " * 7 + b"! " * more + b"up\n", lengths(2, 1, 15 + more)) for more in (1, 2, 3)),
+    *((MOVES, LABELS, b"& up " * 7 + b"! " * more + b"up\n", lengths(2, 1, 15 + more)._replace(marks=33)) for more in (1, 2, 3)),
+    (MOVES, LABELS, MOST, lengths(2, 1, MOST_NODES)),
+    (MOVES, LABELS, MOST, lengths(2, 1, MOST_NODES)._replace(marks=33)),
     (MOVES, LABELS, until(HOUR), lengths(2, 1, 3)._replace(moves=1)),
     (moves_text([(0, 0, 2), (0, 1, 1)]), LABELS, b"P > 0 X dead\n", lengths(2, 2, 2)._replace(moves=3)),
     (MOVES, LABELS, until(HOUR), lengths(2, 1, 3)._replace(order=1)),

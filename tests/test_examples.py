@@ -9,14 +9,15 @@ from reckoning.backing import near_operands
 from reckoning.chain import depth
 from reckoning.copying import copied
 from reckoning.ends import Rules, verdicts
-from reckoning.formula import Next, P, bounds, operands, spelled
+from reckoning.formula import And, Next, P, bounds, nodes, operands, spelled
 from reckoning.judge import allowed_ends, judge
 from reckoning.limits import BILLION
-from reckoning.refusal import Job, refusal
+from reckoning.refusal import Job, needed, refusal
 from reckoning.report import read_report
 from reckoning.verdict import UNDECIDED
 from tests.floats import Floats
 from tests.places import EXAMPLES, FOLDERS, ROOT
+from tests.tables import code, table
 
 COMMAND = ROOT / "sheetcheck"
 CLOSE = 1e-6                # what a double may be off the ends
@@ -38,6 +39,11 @@ def ends_of(job):
     """The ends that the rules leave at each state of a job whose outermost node is a `P` over labels."""
     rules = Rules(job.chain)
     return rules.ends(job.tree.path, *near_operands(rules, job.tree))
+
+
+def rules_of(tree):
+    """What an `&` nested to the right joins, from the first on."""
+    return [tree.left, *rules_of(tree.right)] if isinstance(tree, And) else [tree]
 
 
 class Examples(unittest.TestCase):
@@ -116,6 +122,21 @@ class Examples(unittest.TestCase):
             allowed = allowed_ends(moves.replace(left_out, b""), labels, formula)
             self.assertEqual((f"{allowed.lower[4][1] / BILLION:.5f}", allowed.verdicts[4]), (chance, {"yes"}))
             self.assertIn(chance, (EXAMPLES / "after-workshop" / "README.md").read_text())
+
+    def test_one_has_many_nodes(self):
+        """Fit to run: the rules of its README are the question, fail where it says so, and take 17 mark bytes for each state."""
+        moves, labels, formula = read_texts(EXAMPLES / "fit-to-run")
+        job, readme = refusal(moves, labels, formula), (EXAMPLES / "fit-to-run" / "README.md").read_text()
+        rules = [code(typed).encode() for _, _, typed in table(readme, "rule", "what it asks", "as a formula")]
+        self.assertEqual(rules, list(map(spelled, rules_of(job.tree))))
+        holds = [allowed_ends(moves, labels, rule + b"\n").verdicts for rule in rules]
+        failing = [[at for at, words in enumerate(column, 1) if words == {"no"}] for column in zip(*holds)]
+        for state, *_, told in table(readme, "state", "stands for", "chance", "verdict", "rules that fail"):
+            self.assertEqual(", ".join(map(str, failing[int(state)])) or "none", told, state)
+        self.assertIn(f"Of the {len(failing)} states {failing.count([])} are fit.", readme)
+        count, states, marks = len(nodes(job.tree)), job.chain.states, needed(job).marks
+        self.assertIn(f"The question has {count} nodes.", readme)
+        self.assertIn(f"17 × {states} = {marks:,}, and not one for each node and state, which would be {count} × {states} = {count * states:,}", readme)
 
     def depths(self, *sheet):
         """The depths of the phases of the outermost question."""

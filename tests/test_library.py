@@ -5,11 +5,11 @@ from concurrent.futures import ThreadPoolExecutor
 from ctypes import sizeof
 
 from reckoning.__main__ import read_texts
-from reckoning.formula import hours_text
+from reckoning.formula import hours_text, nodes
 from reckoning.limits import BILLION, HOUR, MOST_HUNDREDTHS, MOST_MOVES, MOST_NODES, MOST_RATE, MOST_STATES
 from reckoning.refusal import BY_TEXTS, Lent, lengths, needed, refusal
 from reckoning.sheets import FAST_MOVES, FORMULA, LABELS, MOVES, NO_MOVES, labels_text, moves_text
-from tests import edges, orders, two_times, ways
+from tests import edges, many_nodes, orders, two_times, ways
 from tests.agreement import elements, library_faults, printed, refusal_number, rows_of, tried
 from tests.jobs import damaged_job, random_job
 from tests.library import ENOUGH, GUARD, KINDS, MORE, Library
@@ -26,6 +26,7 @@ AT_ONCE = 10
 NOTHING = Lent(*[0] * len(Lent._fields))
 ONES = Lent(*[1] * len(Lent._fields))
 FEW = lengths(8, 8, 24)
+FEW_STATES = 5              # of a job of many nodes that is judged
 
 
 class LibraryTest(unittest.TestCase):
@@ -292,6 +293,63 @@ class MoveWords(LibraryTest):
                 self.assertEqual(called.number, 0)
                 self.assertEqual(called.after.moves[start:end], bytes(2 * size * (job[0].count(b"\n") - 1)))
                 self.assertEqual(called.after.moves[end:], called.before.moves[end:])
+
+
+class MarkBytes(LibraryTest):
+    """The mark bytes: for each state one for each node of the formula, at most 17. More of them change nothing."""
+
+    def jobs(self):
+        """Formulas of few nodes and of many, nested in several ways, each with what it needs, its nodes and its states."""
+        rng = random.Random(45)
+        jobs = [job for states in (1, FEW_STATES) for job in many_nodes.jobs(rng, states)]
+        for job in jobs + [job for _, job in many_nodes.every_label_jobs()]:
+            reckoned = refusal(*job)
+            yield job, needed(reckoned), len(nodes(reckoned.tree)), reckoned.chain.states
+
+    def test_lengths(self):
+        """One byte short, or none, is 15 with every byte as it was."""
+        for job, need, count, states in self.jobs():
+            self.assertEqual(need.marks, min(17, count) * states)
+            for marks in {0, need.marks - 1}:
+                for lent in (need._replace(marks=marks), ENOUGH._replace(marks=marks)):
+                    called, _ = self.agrees(job, lent)
+                    self.assertEqual((called.number, called.after), (15, called.before))
+
+    def test_zeros(self):
+        """After acceptance the bytes that are needed hold 0, and those beyond are as they were, also where there is one for each node and state."""
+        for job, need, count, states in self.jobs():
+            for marks in (need.marks, need.marks + 1, count * states, count * states + MORE):
+                called, _ = self.agrees(job, need._replace(marks=marks))
+                end = GUARD + min(17, count) * states
+                self.assertEqual((called.number, called.after.marks[GUARD:end]), (0, bytes(end - GUARD)))
+                self.assertEqual(called.after.marks[end:], called.before.marks[end:])
+
+    def test_reports(self):
+        """Ends, depth, verdicts and order are the same with as few bytes as are needed and with one for each node and state."""
+        judged = []
+        for job, need, count, states in self.jobs():
+            (least, one), (most, other) = (self.agrees(job, need._replace(marks=marks)) for marks in (need.marks, count * states))
+            self.assertEqual((least.number, printed(least, states)), (0, printed(most, states)), job)
+            judged += [one, other]
+        self.assertGreater(sum(judged), 0.9 * len(judged))
+
+    def test_each_operand_counts(self):
+        """Whatever side a row of operators is nested to, each of its labels makes a no."""
+        for count, job in many_nodes.every_label_jobs():
+            called, _ = self.agrees(job, needed(refusal(*job)))
+            self.assertEqual([row.verdict for row in rows_of(called, count + 1)], ["no"] * count + ["yes"])
+
+    def test_most_states(self):
+        """On sheets of as many states as there may be too; their reports are not judged here."""
+        rng = random.Random(46)
+        for count in (16, 17, 18, MOST_NODES):
+            for lean in many_nodes.LEANS:
+                job = many_nodes.job(rng, count, many_nodes.levels_for(count)[-1], lean, MOST_STATES)
+                called = [self.library.check(job, ENOUGH._replace(marks=rows * MOST_STATES)) for rows in (min(17, count), count)]
+                self.assertEqual([library_faults(job, each, FEW_STATES) for each in called], [[], []])
+                self.assertEqual(*(printed(each, MOST_STATES) for each in called))
+                short = self.library.check(job, ENOUGH._replace(marks=min(17, count) * MOST_STATES - 1))
+                self.assertEqual((short.number, short.after), (15, short.before))
 
 
 class Possible(LibraryTest):

@@ -84,7 +84,7 @@ class LibraryExamples(unittest.TestCase):
     def test_the_rust_function(self):
         result = subprocess.run([RUST_TESTS], stdout=subprocess.PIPE, text=True)
         self.assertEqual(result.returncode, 0, result.stdout)
-        self.assertIn("6 passed; 0 failed", result.stdout)
+        self.assertIn("7 passed; 0 failed", result.stdout)
 
 
 if __name__ == "__main__":

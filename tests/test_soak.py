@@ -251,6 +251,22 @@ class Soak(unittest.TestCase):
         self.assertLessEqual({-1, 0, 1, MORE}, set(over))
         self.assertTrue(any(each < -1 for each in over) and any(each > MORE for each in over), over)
 
+    def test_mark_bytes_of_all_lengths_are_lent(self):
+        """Just enough, one short, one more, many more, and of formulas of more than 17 nodes one for each node and state; short ones alone are refused
+        with 15."""
+        rng, over = random.Random(SEED), Counter()
+        for job in (some_job(rng) for _ in range(JOBS)):
+            reckoned = refusal(*job)
+            if not isinstance(reckoned, int):
+                lent, need = some_lent(rng, job), needed(reckoned)
+                count, states = len(f.nodes(reckoned.tree)), reckoned.chain.states
+                over["each node" if count > 17 and lent.marks == count * states else lent.marks - need.marks] += 1
+                over["many nodes"] += count > 17
+                if lent._replace(marks=need.marks) == need:
+                    self.assertEqual(refusal(*job, lent) == SHORT, lent.marks < min(17, count) * states)
+        self.assertLessEqual({-1, 0, 1, MORE, "each node"}, set(over))
+        self.assertGreater(over["many nodes"], JOBS // 40)
+
     def test_a_wrong_program_is_found(self):
         """The one that checks, and the one that copies."""
         for wrong, told in ((PROGRAM, "the program prints"), (COPIER, "the program that copies prints")):

@@ -1,6 +1,6 @@
 """Refusals 15 and 17: a lent buffer is too short."""
 from ..copying import copied
-from ..limits import MOVE_PLACES, VECTOR_PLACES, VECTOR_SPARE
+from ..limits import MOST_ROWS, MOVE_PLACES, VECTOR_PLACES, VECTOR_SPARE
 from ..refusal import Lent, Sheet, needed
 from .words import counted
 
@@ -12,7 +12,7 @@ NEEDS = Lent(
     order=("number", "one for each state"),
     moves=("word", f"{MOVE_PLACES} for each line of moves"),
     vectors=("word", f"{VECTOR_PLACES} for each state, and {VECTOR_SPARE} more"),
-    marks=("byte", "for each state one for each node of the formula"),
+    marks=("byte", f"for each state one for each node of the formula, at most {MOST_ROWS}"),
 )
 
 

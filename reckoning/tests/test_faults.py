@@ -8,6 +8,7 @@ from reckoning.limits import FORMULA_BYTES, MOST_MOVES, MOST_STATES, SHEET_BYTES
 from reckoning.refusal import SHORT, Job, Lent, needed, refusal
 from reckoning.sheets import FORMULA, LABELS, MOVES, MOVES_LINE, NO_MOVES, labels_text, moves_text
 from reckoning.tests.test_formula_faults import FORMULAS, WHOLE_JOBS
+from reckoning.tests.test_refusal import of_nodes
 
 # The numbers of document 01's table and of document 02; 7 and 8 are given no more.
 NUMBERS = set(range(1, 18)) - {7, 8}
@@ -209,7 +210,7 @@ BUFFERS = {
     "order": "lent buffer order: 1 number, it needs 2, one for each state",
     "moves": "lent buffer moves: 1 word, it needs 2, 2 for each line of moves",
     "vectors": "lent buffer vectors: 531 words, it needs 532, 10 for each state, and 512 more",
-    "marks": "lent buffer marks: 5 bytes, it needs 6, for each state one for each node of the formula",
+    "marks": "lent buffer marks: 5 bytes, it needs 6, for each state one for each node of the formula, at most 17",
 }
 
 
@@ -283,6 +284,14 @@ class Buffers(unittest.TestCase):
         short = [length - 1 for length in self.need]
         self.assertEqual(faults(Job(MOVES, LABELS, FORMULA, short)), [BUFFERS[name] for name in Lent._fields])
         self.assertEqual(faults(Job(MOVES, LABELS, FORMULA, self.need)), [])
+
+    def test_many_nodes(self):
+        """From 17 nodes on as many mark bytes as with 17."""
+        for nodes, need in ((16, 32), (17, 34), (18, 34), (64, 34)):
+            formula = of_nodes(nodes)
+            lent = needed(refusal(MOVES, LABELS, formula))._replace(marks=need - 1)
+            self.assertEqual(faults(Job(MOVES, LABELS, formula, lent)),
+                             [f"lent buffer marks: {need - 1} bytes, it needs {need}, for each state one for each node of the formula, at most 17"])
 
     def test_room(self):
         """The copy is as long as it is, and not as the text that it is a copy of."""

@@ -4,7 +4,7 @@ import unittest
 
 from reckoning.formula import Between, Label, Next, P, hours_text, nodes
 from reckoning.limits import (BILLION, FORMULA_BYTES, HOUR, MOST_HUNDREDTHS, MOST_LETTERS, MOST_LEVELS, MOST_MOVES, MOST_NAMES, MOST_NODES, MOST_RATE,
-                              MOST_RATE_HUNDREDTHS, MOST_STATES, SHEET_BYTES)
+                              MOST_RATE_HUNDREDTHS, MOST_ROWS, MOST_STATES, SHEET_BYTES)
 from reckoning.refusal import BY_TEXTS, TESTS, Lent, lengths, needed, refusal
 from reckoning.sheets import FULL_MOVES, LABELS, MOVES, MOVES_LINE, NO_MOVES, between, labels_text, moves_text, until
 
@@ -27,6 +27,11 @@ def and_tree(leaves):
     if leaves == 1:
         return b"up"
     return b"& " + and_tree(leaves // 2) + b" " + and_tree(leaves - leaves // 2)
+
+
+def of_nodes(count):
+    """A formula text of so many nodes, nested as little as can be."""
+    return b"! " * (1 - count % 2) + and_tree((count + 1) // 2) + b"\n"
 
 
 class Refusals(unittest.TestCase):
@@ -212,7 +217,8 @@ class Refusals(unittest.TestCase):
         deep = b"P < 1 V 1 8 up "
         self.check([(0, dict(formula=deep * (MOST_LEVELS - 1) + b"up\n")), (11, dict(formula=deep * (MOST_LEVELS - 1) + b"! up\n")),
                     (11, dict(formula=b"P < 1 V 8 1 up " * MOST_LEVELS + b"up\n"))])
-        self.assertEqual(needed(refusal(MOVES, LABELS, deep * (MOST_LEVELS - 1) + b"up\n")).marks, 2 * (2 * MOST_LEVELS - 1))
+        job = refusal(MOVES, LABELS, deep * (MOST_LEVELS - 1) + b"up\n")
+        self.assertEqual((len(nodes(job.tree)), needed(job).marks), (2 * MOST_LEVELS - 1, 2 * MOST_ROWS))
 
     def test_moves_to_the_own_state(self):
         """They count as lines, in 6 and 9's sum, and are left out of q: 14 is not for them."""
@@ -318,6 +324,21 @@ class Refusals(unittest.TestCase):
                 self.assertEqual(need.moves, 2 * lines)
                 for words, number in ((lines, 15), (2 * lines - 1, 15), (2 * lines, 0), (2 * lines + 1, 0)):
                     self.assertEqual(answer(moves=moves, formula=formula, lent=need._replace(moves=words)), number)
+
+    def test_mark_bytes_for_each_state(self):
+        """One for each node, and from 17 nodes on 17, whatever the formula is made of and however many states there are."""
+        nested = b"P < 1 V 1 8 up P < 1 U 8 up P < 1 X "
+        deep = {31: b"& up " * 15 + b"up\n", 17: b"& up & up " + b"! " * 12 + b"up\n", 18: b"& ! up & up " + b"! " * 12 + b"up\n",
+                26: nested * 5 + b"up\n", 41: b"& & " + nested * 4 + b"up " + b"P > 0 X " * 12 + b"up " + b"! ! " * 2 + b"up\n"}
+        for count, formula in (*((count, of_nodes(count)) for count in (1, 3, 16, 17, 18, 40, MOST_NODES)), *deep.items()):
+            for states in (1, 2, 3, MOST_STATES):
+                moves, labels = MOVES if states > 1 else NO_MOVES, labels_text([b"up"], [[s % 2] for s in range(states)])
+                job = refusal(moves, labels, formula)
+                need = needed(job)
+                self.assertEqual((len(nodes(job.tree)), need.marks), (count, min(17, count) * states))
+                for marks, number in ((0, 15), (need.marks - 1, 15), (need.marks, 0), (need.marks + 1, 0), (count * states, 0)):
+                    self.assertEqual(answer(moves, labels, formula, need._replace(marks=marks)), number)
+        self.assertEqual(lengths(MOST_STATES, MOST_MOVES, MOST_NODES).marks, 8_704)
 
 
 class Reading(unittest.TestCase):

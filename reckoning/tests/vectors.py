@@ -11,8 +11,8 @@ MISSING = None if FOLDER.is_dir() else "the vectors are not there: no folder ../
 # those that have this number; the third leaves them all, since a line says nothing of listings, and the fourth, since every job keeps its answer.
 # The fifth leaves them but for these: each has a `P` with the threshold 0 or 1,000,000,000 that its ends left undecided at some state, or left free
 # to be so, while its operands are decided everywhere. The sixth leaves them all, since no line before it has a `V`. The seventh, "8 is never given
-# again", leaves them but for those that have this number.
-FILES = "refusals.jsonl", "reports.jsonl", *(f"request-{number}.jsonl" for number in range(1, 8))
+# again", leaves them but for those that have this number; the eighth leaves them all, since a line says nothing of lent buffers.
+FILES = "refusals.jsonl", "reports.jsonl", *(f"request-{number}.jsonl" for number in range(1, 9))
 NEVER_GIVEN = 7, 8
 DECIDED_SINCE = {"line longer than D", "line longer than D nested", "random 32", "random 53", "random 1.9", "random 4.5"}
 

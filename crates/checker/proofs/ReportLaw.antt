@@ -4,7 +4,7 @@ use mathlib.Core.Bool.{Bool, true, false, not, true≢false}
 use mathlib.Core.List.{List, _++_}
 use Prim.Native.Nat.{ℕ, _+_, _-_, _*_, _≤_, _<_}
 use native.Mathlib.Omega.{arith}
-use native.Mathlib.Nat.{mul-le-mul, mul-le-mul-right}
+use native.Mathlib.Nat.{mul-le-mul-right}
 use lib.ListN.{length, take, drop, replicate, length-drop, length-replicate, List·getD-eq-default}
 use lib.Seq.{length-take-le, getD-take, getD-drop, ext-getD}
 use lib.Dec.{ltb}
@@ -15,7 +15,7 @@ use Rattle.csl.specs.Text.{Text}
 use Rattle.csl.specs.Limits.{mostStates, mostMoves, mostNodes, mostLevels, movePlaces}
 use Rattle.csl.specs.Labels.{namesOf, statesOf}
 use Rattle.csl.specs.Moves.{movesOf}
-use Rattle.csl.specs.Formula.{nodes, levels}
+use Rattle.csl.specs.Formula.{nodes}
 use Rattle.csl.specs.Chain.{topRate}
 use Rattle.csl.specs.Order.{worstFirst}
 use Rattle.csl.specs.Lent.{Buffers, column, written}
@@ -24,13 +24,12 @@ use Rattle.numbers.specs.Filled.{at, Table, table-at, table-rest, zeros-written
 use Rattle.numbers.specs.Part.{front-length, front-at, front-beyond}
 use Rattle.bounds.specs.Found.{reportLower, reportUpper}
 use Rattle.formula.specs.Each.{nodes-some}
-use Rattle.formula.specs.Stored.{levels-nodes}
 use Rattle.formula.specs.Nodes.{kindAt}
 use Rattle.formula.specs.Pass.{passed, placePassed, allPassed}
 use Rattle.formula.specs.declared.nodes.Nodes.{Nodes}
 use Rattle.formula.specs.declared.pass.Test.the-variants.{NoSearch}
 use Rattle.vectors.specs.Places.{vectorLength}
-use Rattle.verdict_rows.specs.Row.{EndsIn}
+use Rattle.verdict_rows.specs.Row.{EndsIn, rowsLength}
 use Rattle.results.specs.Column.{column-length, column-as, written-length, written-at}
 use Rattle.worst_first.specs.Asked.{SortAsked}
 use Rattle.refusals.specs.declared.sheet_tests.Dimensions.{Dimensions}
@@ -38,6 +37,7 @@ use Rattle.sheet_words.specs.Stored.{StoreAsked, Stored}
 use Rattle.sheet_words.specs.Shown.{sheet-owns, marks-shown}
 use Rattle.decide.specs.Asked.{DecideAsked, Decides, formulaOf}
 use Rattle.decide.specs.Fits.{each-below}
+use Rattle.decide.specs.Enough.{rows-fit}
 use Rattle.checker.specs.Job.{buffers}
 use Rattle.checker.specs.Report.{chainIn, formulaIn, Ready, DecideAll, Decided, ClearAsked, Cleared, ReportAsked, ReportLeft}
 
@@ -57,9 +57,6 @@ module _ {m₀ labels : Text} {d : Dimensions} {x : Nodes} (r : Ready m₀ label
 
   pub some-node : 1 ≤ x .count
   some-node = omega (arith, r .counted, nodes-some (formulaIn labels x))
-
-  pub few-marks : x .count * d .states ≤ mostNodes * mostStates
-  few-marks = mul-le-mul (r .few-nodes) few-states
 
 -- 0 in all places of a front that is cleared, and beyond its end
 pub front-zero : (l₀ l : List ℕ) (n : ℕ) → n ≤ length l → Table (λ _. 0) l₀ l n → (k : ℕ) → at (take n l) k ≡ 0
@@ -93,9 +90,6 @@ module _ {m₀ labels : Text} {d : Dimensions} {x : Nodes} {words₀ vectors₀ 
   pub byte-fits : Fits w64 (d .moves * 8)
   byte-fits = omega (arith, few-moves)
 
-  pub rows-few : x .count * d .states ≤ mostNodes * mostStates
-  rows-few = few-marks (r .ready)
-
   pub store-asked : StoreAsked m₀ labels d words₀ vectors₀
   store-asked =
       record {
@@ -105,8 +99,8 @@ module _ {m₀ labels : Text} {d : Dimensions} {x : Nodes} {words₀ vectors₀ 
         long = rw (states-are (r .ready)) at (r .in-vectors);
       }
 
-  pub clear-asked : x .count * d .states ≤ length marks₀
-  clear-asked = r .in-marks
+  pub clear-asked : {b : ℕ} → b ≡ rowsLength (d .states) (x .count) → b ≤ length marks₀
+  clear-asked e = omega (arith, r .in-marks)
 
   pub few-nodes : x .count ≤ mostNodes
   few-nodes = r .ready .few-nodes
@@ -122,7 +116,7 @@ module _ {m₀ labels : Text} {d : Dimensions} {x : Nodes} {words₀ vectors₀ 
 
   module _ {passes wanted : Bool} (all : passes ≡ allPassed NoSearch x) (want : wanted ≡ not passes) {words vectors marks : List ℕ}
       (s : Stored wanted m₀ labels words₀ words vectors₀ vectors)
-      (z : Table (λ _. 0) marks₀ marks (x .count * d .states)) where
+      {b : ℕ} (measured : b ≡ rowsLength (d .states) (x .count)) (z : Table (λ _. 0) marks₀ marks b) where
     pub words-long : d .moves ≤ length words
     words-long = omega (arith, r .in-words, s .words-same)
 
@@ -136,16 +130,16 @@ module _ {m₀ labels : Text} {d : Dimensions} {x : Nodes} {words₀ vectors₀ 
     pub index-counted : length (behind (d .moves) words) ≡ d .moves
     index-counted = rw (behind-is (d .moves) words) (length-take-le (d .moves) (drop (d .moves) words) (omega (arith, index-long, length-drop (d .moves) words)))
 
-    pub marks-long : x .count * d .states ≤ length marks
+    pub marks-long : b ≤ length marks
     marks-long = omega (arith, r .in-marks, z .same)
 
-    pub marks-counted : x .count * d .states ≡ length (take (x .count * d .states) marks)
-    marks-counted = sym (length-take-le (x .count * d .states) marks marks-long)
+    pub marks-counted : b ≡ length (take b marks)
+    marks-counted = sym (length-take-le b marks marks-long)
 
-    pub levels-few : levels (formulaIn labels x) ≤ x .count
-    levels-few = omega (arith, r .ready .counted, levels-nodes (formulaIn labels x))
+    pub rows-counted : b ≡ rowsLength (d .states) (nodes (formulaIn labels x))
+    rows-counted = measured ∙ ap (rowsLength (d .states)) (r .ready .counted)
 
-    abbrev pub decide-asked : DecideAsked (take (d .moves) words) (behind (d .moves) words) vectors (take (x .count * d .states) marks) (x .nodes)
+    abbrev pub decide-asked : DecideAsked (take (d .moves) words) (behind (d .moves) words) vectors (take b marks) (x .nodes)
         (x .count - 1) mostLevels (d .states) (d .q)
     decide-asked =
         record {
@@ -161,44 +155,44 @@ module _ {m₀ labels : Text} {d : Dimensions} {x : Nodes} {words₀ vectors₀ 
           inside = omega (arith, some, r .ready .few-nodes);
           fits = rw (q-is (r .ready)) (λ k h. r .ready .fits k (omega (arith, some)));
           deep = r .ready .few-levels;
-          room = omega (arith, marks-counted, mul-le-mul-right (d .states) levels-few);
-          clear = λ k h. front-zero marks₀ marks (x .count * d .states) marks-long z k;
+          room = omega (arith, marks-counted, rows-counted, rows-fit (formulaIn labels x) (d .states) 0 (r .ready .few-levels));
+          clear = λ k h. front-zero marks₀ marks b marks-long z k;
         }
 
     module _ {vectors' part : List ℕ} {depth : ℕ}
-        (e : (a : DecideAsked (take (d .moves) words) (behind (d .moves) words) vectors (take (x .count * d .states) marks) (x .nodes)
+        (e : (a : DecideAsked (take (d .moves) words) (behind (d .moves) words) vectors (take b marks) (x .nodes)
         (x .count - 1) mostLevels (d .states) (d .q))
-        → Decides (a .c) (formulaOf a) (d .states) vectors vectors' (take (x .count * d .states) marks) part depth) where
-      decides : Decides (chainIn m₀ labels) (formulaIn labels x) (d .states) vectors vectors' (take (x .count * d .states) marks) part depth
+        → Decides (a .c) (formulaOf a) (d .states) vectors vectors' (take b marks) part depth) where
+      decides : Decides (chainIn m₀ labels) (formulaIn labels x) (d .states) vectors vectors' (take b marks) part depth
       decides = e decide-asked
 
       back : List ℕ
-      back = part ++ drop (x .count * d .states) marks
+      back = part ++ drop b marks
 
-      one-row : d .states ≤ x .count * d .states
+      one-row : d .states ≤ b
       one-row = omega (arith, mul-le-mul-right (d .states) some)
 
-      pub all-decided : Decided m₀ labels x words₀ words vectors₀ vectors' marks₀ (part ++ drop (x .count * d .states) marks) depth
+      pub all-decided : Decided m₀ labels x words₀ words vectors₀ vectors' marks₀ (part ++ drop b marks) depth
       all-decided =
-          let k = x .count * d .states in
           record {
             deep = decides .deep;
-            lowers = λ i b. decides .ends .lowers i (omega (arith, states-are (r .ready)));
-            uppers = λ i b.
+            lowers = λ i h. decides .ends .lowers i (omega (arith, states-are (r .ready)));
+            uppers = λ i h.
                 ap (λ (n : ℕ). at vectors' (n + i)) (sym (states-are (r .ready))) ∙ decides .ends .uppers i (omega (arith, states-are (r .ready)));
             range = rw (← states-are (r .ready)) (decides .range);
-            bytes = λ i b.
-                front-at marks part k marks-long (decides .row .same) i (omega (arith, states-are (r .ready), one-row))
+            bytes = λ i h.
+                front-at marks part b marks-long (decides .row .same) i (omega (arith, states-are (r .ready), one-row))
                 ∙ table-at (decides .row) i (omega (arith, states-are (r .ready)));
             words-same = s .words-same;
-            words-beyond = λ i b. s .words-beyond i (omega arith);
+            words-beyond = λ i h. s .words-beyond i (omega arith);
             vectors-same = decides .ends .same ∙ s .same;
-            vectors-beyond = λ i b. decides .ends .after i (omega (arith, states-are (r .ready))) ∙ s .beyond i b;
-            marks-same = front-length marks part k marks-long (decides .row .same) ∙ z .same;
-            marks-beyond = rw (← states-are (r .ready)) (λ i b. front-beyond marks part k marks-long (decides .row .same) i b ∙ table-rest z i b);
+            vectors-beyond = λ i h. decides .ends .after i (omega (arith, states-are (r .ready))) ∙ s .beyond i h;
+            marks-same = front-length marks part b marks-long (decides .row .same) ∙ z .same;
+            marks-beyond = rw (← states-are (r .ready)) λ i h.
+                let j : b ≤ i = omega (arith, measured) in front-beyond marks part b marks-long (decides .row .same) i j ∙ table-rest z i j;
           }
 
-pub ruleset decide-laws = (small, some, few-nodes, rows-few, store-asked, clear-asked, words-long, words-counted, index-long, few-moves, marks-long, marks-counted)
+pub ruleset decide-laws = (small, some, few-nodes, store-asked, clear-asked, words-long, words-counted, index-long, few-moves, marks-long, marks-counted)
 
 drop-beyond : (n : ℕ) (l l₀ : List ℕ) → length l ≡ length l₀ → ((k : ℕ) → n ≤ k → at l k ≡ at l₀ k) → drop n l ≡ drop n l₀
 drop-beyond n l l₀ e h =
@@ -287,11 +281,13 @@ module _ {m₀ labels : Text} {d : Dimensions} {x : Nodes} {before : Buffers (Li
           }
 
 -- zeros in all that was worked in
-pub all-cleared : {n m k : ℕ} {words words' vectors vectors' marks marks' : List ℕ} {v : ℕ} → ClearAsked n m k words vectors marks → v ≡ vectorLength n
-    → words' ≡ written (replicate (movePlaces * m) 0) words → vectors' ≡ written (replicate v 0) vectors → Table (λ _. 0) marks marks' (k * n)
+pub all-cleared : {n m k : ℕ} {words words' vectors vectors' marks marks' : List ℕ} {v b : ℕ} → ClearAsked n m k words vectors marks
+    → v ≡ vectorLength n → b ≡ rowsLength n k
+    → words' ≡ written (replicate (movePlaces * m) 0) words → vectors' ≡ written (replicate v 0) vectors → Table (λ _. 0) marks marks' b
     → Cleared n m k words words' vectors vectors' marks marks'
-all-cleared {vectors = vectors} a e ws vs ms =
-    record { in-words = ws; in-vectors = vs ∙ ap (λ (i : ℕ). written (replicate i 0) vectors) e; in-marks = zeros-written (a .in-marks) ms }
-
-pub rows-fit : {n m k : ℕ} {words vectors marks : List ℕ} → ClearAsked n m k words vectors marks → k * n ≤ mostNodes * mostStates
-rows-fit a = mul-le-mul (a .nodes) (a .states)
+all-cleared {vectors = vectors} a e f ws vs ms =
+    record {
+      in-words = ws;
+      in-vectors = vs ∙ ap (λ (i : ℕ). written (replicate i 0) vectors) e;
+      in-marks = zeros-written (a .in-marks) (rw f at ms);
+    }

@@ -5,3 +5,4 @@ pub mod Room
 pub mod Report
 pub mod Leaves
 pub mod Alike
+pub mod OtherMarks

@@ -19,7 +19,7 @@ use Rattle.formula.specs.Nodes.{kindAt}
 use Rattle.formula.specs.FormulaAt.{formulaAt}
 use Rattle.formula.specs.declared.nodes.Nodes.{Nodes}
 use Rattle.vectors.specs.Places.{vectorLength}
-use Rattle.verdict_rows.specs.Row.{EndsIn}
+use Rattle.verdict_rows.specs.Row.{EndsIn, rowsLength}
 use Rattle.decide.specs.Asked.{NodeFits}
 use Rattle.results.specs.Report.{EachFilled}
 use Rattle.refusals.specs.Sheet.{dimensionsOf}
@@ -48,7 +48,7 @@ pub record DecideAll (moves labels : Text) (d : Dimensions) (x : Nodes) (words v
   pub ready : Ready moves labels d x
   pub in-words : movePlaces * d .moves ≤ length words
   pub in-vectors : vectorLength (d .states) ≤ length vectors
-  pub in-marks : x .count * d .states ≤ length marks
+  pub in-marks : rowsLength (d .states) (x .count) ≤ length marks
 
 -- the report of what is found of the formula over the chain stands in the first mark bytes and vector words; beyond the lengths that the job
 -- needs all is as it was
@@ -63,7 +63,7 @@ pub record Decided (moves labels : Text) (x : Nodes) (words₀ words vectors₀ 
   pub vectors-same : length vectors ≡ length vectors₀
   pub vectors-beyond : (k : ℕ) → vectorLength (statesOf labels) ≤ k → at vectors k ≡ at vectors₀ k
   pub marks-same : length marks ≡ length marks₀
-  pub marks-beyond : (k : ℕ) → x .count * statesOf labels ≤ k → at marks k ≡ at marks₀ k
+  pub marks-beyond : (k : ℕ) → rowsLength (statesOf labels) (x .count) ≤ k → at marks k ≡ at marks₀ k
 
 -- words and mark bytes of a job with n states, m move lines and k nodes are to be cleared
 pub record ClearAsked (n m k : ℕ) (words vectors marks : List ℕ) : Type 0 where
@@ -72,13 +72,13 @@ pub record ClearAsked (n m k : ℕ) (words vectors marks : List ℕ) : Type 0 wh
   pub nodes : k ≤ mostNodes
   pub in-words : movePlaces * m ≤ length words
   pub in-vectors : vectorLength n ≤ length vectors
-  pub in-marks : k * n ≤ length marks
+  pub in-marks : rowsLength n k ≤ length marks
 
 -- "the named lengths of move, vector and mark buffers hold 0"
 pub record Cleared (n m k : ℕ) (words₀ words vectors₀ vectors marks₀ marks : List ℕ) : Type 0 where
   pub in-words : words ≡ written (replicate (movePlaces * m) 0) words₀
   pub in-vectors : vectors ≡ written (replicate (vectorLength n) 0) vectors₀
-  pub in-marks : marks ≡ written (replicate (k * n) 0) marks₀
+  pub in-marks : marks ≡ written (replicate (rowsLength n k) 0) marks₀
 
 -- a sheet and a formula as above, and lent buffers that are long enough
 pub record ReportAsked (moves labels : Text) (d : Dimensions) (x : Nodes) (before : Buffers (List ℕ)) : Type 0 where

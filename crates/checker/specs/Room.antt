@@ -9,6 +9,7 @@ use Rattle.csl.specs.Limits.{movePlaces}
 use Rattle.csl.specs.Lent.{Buffers, needed, rooms, isShort}
 use Rattle.accepted.specs.Order.{neither}
 use Rattle.vectors.specs.Places.{vectorLength}
+use Rattle.verdict_rows.specs.Row.{rowsLength}
 
 -- with n states, m move lines and k nodes
 pub record HasRoom (n m k : ℕ) (l : Buffers ℕ) : Type 0 where
@@ -18,7 +19,7 @@ pub record HasRoom (n m k : ℕ) (l : Buffers ℕ) : Type 0 where
   pub order : n ≤ l .order
   pub moves : movePlaces * m ≤ l .moves
   pub vectors : vectorLength n ≤ l .vectors
-  pub marks : k * n ≤ l .marks
+  pub marks : rowsLength n k ≤ l .marks
 
 pub has-room : (l : Buffers ℕ) (n m k : ℕ) → isShort l (needed n m k) ≡ false → HasRoom n m k l
 unfolding isShort any rooms
@@ -29,7 +30,7 @@ has-room l n m k h =
     let d = neither (ltb (l .order) n) _ (c .1) in
     let e = neither (ltb (l .moves) (movePlaces * m)) _ (d .1) in
     let f = neither (ltb (l .vectors) (vectorLength n)) _ (e .1) in
-    let g = neither (ltb (l .marks) (k * n)) _ (f .1) in
+    let g = neither (ltb (l .marks) (rowsLength n k)) _ (f .1) in
     record {
       lower = ltb-false _ _ (a .0);
       upper = ltb-false _ _ (b .0);

@@ -22,10 +22,10 @@ fn decide_all(
     let n = sheet.states;
     let m = sheet.moves;
     let root = nodes.count - 1;
-    let rows = nodes.count * n;
+    let bytes = verdict_rows::length(n, nodes.count);
     let searches = !formula::all_pass(nodes, Test::NoSearch);
     sheet_words::store(moves, labels, sheet, words, vectors, searches);
-    verdict_rows::clear(marks, rows);
+    verdict_rows::clear(marks, bytes);
     let laid = &words[..];
     decide::decide(
         nodes,
@@ -34,7 +34,7 @@ fn decide_all(
         &laid[..m],
         &laid[m..m + m],
         vectors,
-        &mut marks[..rows],
+        &mut marks[..bytes],
         n,
         sheet.q,
     )
@@ -54,9 +54,10 @@ fn clear_all(
         (now (words .entry)) (now (words .exit)) (now (vectors .entry)) (now (vectors .exit)) (now (marks .entry)) (now (marks .exit)) ⌝ }
 {
     let length = vectors::length(n);
+    let bytes = verdict_rows::length(n, count);
     zeros::clear_words(words, limits::MOVE_PLACES * m);
     zeros::clear_words(vectors, length);
-    verdict_rows::clear(marks, count * n);
+    verdict_rows::clear(marks, bytes);
 }
 
 // Writes the report into the result buffers, leaves zeros in the other lent buffers, and answers the depth.

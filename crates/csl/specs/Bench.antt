@@ -60,9 +60,9 @@ onlyRestarts formula = jobOf "from,to,rate\n0,0,64000000\n" formula
 abbrev pub enough : Buffers ℕ
 enough = needed 2 5 mostNodes
 
--- the buffers for the small sheet and one node, with this order buffer and these move words
-abbrev pub lentAs : (order moves : List ℕ) → Buffers (List ℕ)
-lentAs order moves =
+-- the buffers for the small sheet, with this order buffer, these move words and these marks
+abbrev pub lentWith : (order moves marks : List ℕ) → Buffers (List ℕ)
+lentWith order moves marks =
     record {
       lower = replicate 2 7;
       upper = replicate 2 7;
@@ -70,8 +70,16 @@ lentAs order moves =
       order = order;
       moves = moves;
       vectors = replicate 532 7;
-      marks = replicate 2 7;
+      marks = marks;
     }
+
+-- with marks for one node
+abbrev pub lentAs : (order moves : List ℕ) → Buffers (List ℕ)
+lentAs order moves = lentWith order moves (replicate 2 7)
+
+-- with so many marks
+abbrev pub lentMarks : ℕ → Buffers (List ℕ)
+lentMarks k = lentWith (replicate 2 7) (replicate 2 7) (replicate k 7)
 
 -- accepted, with this formula, q and depth
 abbrev pub Accepts : Job → Formula → ℕ → ℕ → Type 0
@@ -284,6 +292,20 @@ pub record AnyOrder : Type 0 where
   -- "tests 1 to 9", of these two texts
   pub empty-moves : copyRefusal [] (bytes "state\n0\n") 0 ≡ some 1
   pub strange-copy : copyRefusal (bytes "from,to,rate\n0,1,5\n") (bytes "state\n0\n") 0 ≡ some 6
+
+-- The lent marks of the small sheet, which has two states: a formula of 3 nodes, of 17 and of 19.
+pub record LentMarks : Type 0 where
+  -- "nodes × n where that is less"
+  pub three-short : refusal (small "& up dead\n") (lengths (lentMarks 5)) ≡ some 15
+  pub three-long : refusal (small "& up dead\n") (lengths (lentMarks 6)) ≡ none
+  -- "mark bytes of 17 × n .. shall be enough"
+  pub seventeen-short : refusal (small "& up & up & up & up & up & up & up & up dead\n") (lengths (lentMarks 33)) ≡ some 15
+  pub seventeen-long : refusal (small "& up & up & up & up & up & up & up & up dead\n") (lengths (lentMarks 34)) ≡ none
+  pub nineteen-short : refusal (small "& up & up & up & up & up & up & up & up & up dead\n") (lengths (lentMarks 33)) ≡ some 15
+  pub nineteen-long : refusal (small "& up & up & up & up & up & up & up & up & up dead\n") (lengths (lentMarks 34)) ≡ none
+  -- "the zeros after acceptance use the new length"
+  pub three-zero : filled 2 1 3 (λ s. s) (λ s. s) (λ s. Yes) (lentMarks 8) .marks ≡ replicate 6 0 ++ replicate 2 7
+  pub nineteen-zero : filled 2 1 19 (λ s. s) (λ s. s) (λ s. Yes) (lentMarks 38) .marks ≡ replicate 34 0 ++ replicate 4 7
 
 -- "`P <= 10000000 U 8 up dead`: .. lower ≤ 3,992,010, upper ≥ 3,992,011, width ≤ 168, yes at state 0", of every report
 pub record EightHours (lower upper : ℕ → ℕ) (v : ℕ → Verdict) : Type 0 where

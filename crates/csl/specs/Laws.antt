@@ -37,11 +37,13 @@ pub mod Grammar
 pub mod Decimal
 pub mod Order
 pub mod Listing
+pub mod Lending
 pub mod Bench
 pub mod BenchNext
 pub mod BenchGraph
 pub mod BenchBetween
 pub mod BenchOrder
+pub mod BenchMarks
 pub mod Trial
 pub mod WholeHours
 pub mod EightHours

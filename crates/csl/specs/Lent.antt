@@ -1,13 +1,14 @@
 -- The lent buffers: "With n states and m move lines the caller lends: lower and upper numbers (32 bits) and verdict bytes, n of each; move
--- words (64 bits) of m; vector words (64 bits) of 10 × n + 512; mark bytes of nodes × n"; and "a lent order buffer of n 16-bit numbers".
--- "An index of incoming moves is kept beside the moves, holding each move once; the move words lent grow to 2 × m." Assumes nothing.
-use Prim.Native.Nat.{ℕ, zero, suc, _+_, _*_}
+-- words (64 bits) of m; vector words (64 bits) of 10 × n + 512"; and "a lent order buffer of n 16-bit numbers". "An index of incoming moves is
+-- kept beside the moves, holding each move once; the move words lent grow to 2 × m." "The shipboard unit is short of memory: mark bytes of
+-- 17 × n, or nodes × n where that is less, shall be enough." Assumes nothing.
+use Prim.Native.Nat.{ℕ, zero, suc, _+_, _*_, min}
 use mathlib.Core.Bool.{Bool}
 use mathlib.Core.List.{List, [], _∷_, _++_}
 use lib.ListN.{length, drop, replicate}
 use lib.Dec.{ltb}
 use Rattle.csl.specs.Text.{any}
-use Rattle.csl.specs.Limits.{movePlaces, vectorPlaces, vectorSpare}
+use Rattle.csl.specs.Limits.{movePlaces, vectorPlaces, vectorSpare, mostRows}
 use Rattle.csl.specs.Verdicts.{Verdict, No, Yes, Undecided}
 use Rattle.csl.specs.Order.{worstFirst}
 
@@ -24,7 +25,15 @@ pub record Buffers (A : Type 0) : Type 0 where
 -- n states, m move lines, k nodes
 abbrev pub needed : ℕ → ℕ → ℕ → Buffers ℕ
 needed n m k =
-    record { lower = n; upper = n; verdicts = n; order = n; moves = movePlaces * m; vectors = vectorPlaces * n + vectorSpare; marks = k * n }
+    record {
+      lower = n;
+      upper = n;
+      verdicts = n;
+      order = n;
+      moves = movePlaces * m;
+      vectors = vectorPlaces * n + vectorSpare;
+      marks = min (mostRows * n) (k * n);
+    }
 
 abbrev pub lengths : Buffers (List ℕ) → Buffers ℕ
 lengths b =
@@ -51,7 +60,7 @@ rooms l n =
     room (l .lower) (n .lower) ∷ room (l .upper) (n .upper) ∷ room (l .verdicts) (n .verdicts) ∷ room (l .order) (n .order)
     ∷ room (l .moves) (n .moves) ∷ room (l .vectors) (n .vectors) ∷ room (l .marks) (n .marks) ∷ []
 
--- "a lent buffer too short"; "15 covers it too"
+-- "a lent buffer too short"; "15 covers it too"; "15 and the zeros after acceptance use the new length"
 unfoldable pub isShort : Buffers ℕ → Buffers ℕ → Bool
 isShort l n = any (λ r. ltb (r .lent) (r .need)) (rooms l n)
 

@@ -88,3 +88,7 @@ vectorPlaces = 10
 
 abbrev pub vectorSpare : ℕ
 vectorSpare = 512
+
+-- "mark bytes of 17 × n, or nodes × n where that is less": rows of n bytes, at most so many
+abbrev pub mostRows : ℕ
+mostRows = 17

@@ -1,14 +1,14 @@
 -- What follows from the definitions alone: the user's third demand, of EVERY report that has a backing, whoever made it; the bench values;
 -- what document 01 says in passing; and that the rules can be kept. Nothing here speaks of a program. Assumes nothing.
-use mathlib.Core.Path.{_≡_, refl}
+use mathlib.Core.Path.{_≡_, refl, _∙_}
 use mathlib.Core.Bool.{Bool, true, false, cond, _&&_}
 use mathlib.Core.Logic.{_⊎_}
-use Prim.Native.Nat.{ℕ, suc, _+_, _*_, _-_, _≤_, _<_}
-use mathlib.Core.List.{List}
+use Prim.Native.Nat.{ℕ, suc, _+_, _*_, _-_, _≤_, _<_, min}
+use mathlib.Core.List.{List, _++_}
 use mathlib.Core.Option.{none, some}
 use lib.Dec.{leb, eqb}
-use borrow.Author.Tests.{le-leb}
-use lib.ListN.{length}
+use borrow.Author.Tests.{le-leb, le-ltb, lt-ltb}
+use lib.ListN.{length, drop, replicate}
 use native.Mathlib.Omega.{arith}
 use Rattle.csl.specs.Text.{Text, any}
 use Rattle.csl.specs.Limits.{billion, formulaDigits, hour, mostHundredths, mostRateHundredths, widthFactor, spareSteps}
@@ -32,8 +32,10 @@ use Rattle.csl.specs.Backing.{AtEach, Backed, ChanceKeeps, operandsOf, N
 use Rattle.csl.specs.Truth.{Obeys, Throughout}
 use Rattle.csl.specs.Order.{isAbove, worstFirst, Ranks, InOrder}
 use Rattle.csl.specs.Report.{Reported, backingOf, depthOf}
-use Rattle.csl.specs.Refusal.{Job, jobChain, formulaTests, firstOf, formulaFrom, isMissing, largeFormula, strangeLabel, wrongBound, wrongTimes, highLoad}
-use Rattle.csl.specs.Bench.{small, up, dead, eight, Accepts, BenchValues, DecimalHours, NextMoves, SecondListing, PossibleAndCertain, NotBeforeAnHour, AnyOrder, EightHours, TrialQuotients}
+use Rattle.csl.specs.Lent.{Buffers, lengths, needed, isShort, filled}
+use Rattle.csl.specs.Refusal.{Job, jobChain, formulaTests, firstOf, formulaFrom, isMissing, largeFormula, strangeLabel, wrongBound, wrongTimes, highLoad, shortBuffer}
+use Rattle.csl.specs.Finished.{Answer, Finished}
+use Rattle.csl.specs.Bench.{small, up, dead, eight, Accepts, BenchValues, DecimalHours, NextMoves, SecondListing, PossibleAndCertain, NotBeforeAnHour, AnyOrder, LentMarks, EightHours, TrialQuotients}
 use Rattle.csl.specs.Laws.Computing.{computing}
 use Rattle.csl.specs.Laws.Fraction.{under-below}
 use Rattle.csl.specs.Laws.Steps.{step-le, step-rises, divisor-some}
@@ -54,11 +56,13 @@ use Rattle.csl.specs.Laws.Backing.{kept-operands}
 use Rattle.csl.specs.Laws.Throughout.{throughout, sides, sides-throughout, Together, backings-agree}
 use Rattle.csl.specs.Laws.Grammar.{read-if-spelled, spelled-if-read}
 use Rattle.csl.specs.Laws.Order.{rows-rank, ordered-in-order, only-in-order, order-same}
+use Rattle.csl.specs.Laws.Lending.{marks-alone, marks-left, ButForMarks, finished-alike}
 use Rattle.csl.specs.Laws.Bench as bench
 use Rattle.csl.specs.Laws.BenchNext as next-bench
 use Rattle.csl.specs.Laws.BenchGraph as graph-bench
 use Rattle.csl.specs.Laws.BenchBetween as between-bench
 use Rattle.csl.specs.Laws.BenchOrder as order-bench
+use Rattle.csl.specs.Laws.BenchMarks as marks-bench
 use Rattle.csl.specs.Laws.Trial as trial
 use Rattle.csl.specs.Laws.EightHours as hours
 use Rattle.csl.specs.Laws.WholeHours as without-point
@@ -217,8 +221,8 @@ decided-verdicts-are-a-table c f v k d =
     let o : Obeys c f (λ s. asNo (v s)) = verdicts-obey c f v k d in (o, throughout c f v (λ s. asNo (v s)) k o)
 
 -- T4. The starred bench values, those of hours with decimals, of the next move and of moves to the own state, of the second listing, of what the
--- moves decide, of until between two times, of moves in any order and their copies, and `P <= 10000000 U 8 up dead`, of every report that has a backing; and
--- quotients as a second reckoning has them.
+-- moves decide, of until between two times, of moves in any order and their copies, of the lent marks, and `P <= 10000000 U 8 up dead`, of every
+-- report that has a backing; and quotients as a second reckoning has them.
 pub starred-bench-values : BenchValues
 starred-bench-values = bench.bench-values
 
@@ -239,6 +243,9 @@ not-before-an-hour = between-bench.not-before-an-hour
 
 pub moves-in-any-order : AnyOrder
 moves-in-any-order = order-bench.any-order
+
+pub marks-of-three-and-of-nineteen-nodes : LentMarks
+marks-of-three-and-of-nineteen-nodes = marks-bench.lent-marks
 
 pub eight-hours-of-every-report : (lower upper : ℕ → ℕ) (v : ℕ → Verdict)
     → Reported (jobChain (small "P <= 10000000 U 8 up dead\n")) (chance AtMost 10000000 (until eight up dead)) lower upper v → EightHours lower upper v
@@ -432,6 +439,29 @@ module _ (c : Chain) (x : ℕ → Bool) (s : ℕ) where
   next-certain-exactly-at-1 = (next-full c x s, λ e. next-all c x s (omega (arith, e)))
 
 -- T11 to T13, of moves texts that say the same chain and of the clean copy, are in the crate `same_chain`.
+
+-- T14. The lent marks. "mark bytes of 17 × n, or nodes × n where that is less, shall be enough", where the other six buffers are long enough: with
+-- no node no marks are needed.
+module _ (l : Buffers ℕ) (n m k : ℕ) (others : isShort l (needed n m 0) ≡ false) where
+  pub seventeen-rows-are-enough : 17 * n ≤ l .marks → isShort l (needed n m k) ≡ false
+  seventeen-rows-are-enough h = marks-alone l n m k others ∙ le-ltb (l .marks) (min (17 * n) (k * n)) (omega arith)
+
+  pub a-row-for-each-node-is-enough : k * n ≤ l .marks → isShort l (needed n m k) ≡ false
+  a-row-for-each-node-is-enough h = marks-alone l n m k others ∙ le-ltb (l .marks) (min (17 * n) (k * n)) (omega arith)
+
+  -- "15 and the zeros after acceptance use the new length"
+  pub less-than-both-is-too-short : l .marks < 17 * n → l .marks < k * n → isShort l (needed n m k) ≡ true
+  less-than-both-is-too-short h i = marks-alone l n m k others ∙ lt-ltb (l .marks) (min (17 * n) (k * n)) (omega arith)
+
+pub marks-hold-0-to-the-new-length : (n m k : ℕ) (lower upper : ℕ → ℕ) (v : ℕ → Verdict) (old : Buffers (List ℕ))
+    → filled n m k lower upper v old .marks ≡ replicate (min (17 * n) (k * n)) 0 ++ drop (min (17 * n) (k * n)) (old .marks)
+marks-hold-0-to-the-new-length n m k lower upper v old = marks-left n m k lower upper v old
+
+-- "Ends, depths, verdicts and listings equal those of the larger buffer": what is finished over lent buffers is finished, with the same answer and
+-- the same in every other buffer, over buffers that differ in the marks alone, if these are long enough in both or in neither.
+pub marks-change-nothing-else : (j : Job) (x y : Buffers (List ℕ)) → ButForMarks x y → shortBuffer j (lengths x) ≡ shortBuffer j (lengths y)
+    → (a : Answer) (left : Buffers (List ℕ)) → Finished j x a left → (other : Buffers (List ℕ)) × Finished j y a other × ButForMarks left other
+marks-change-nothing-else j x y same h a left f = finished-alike j x y same h a left f
 
 -- The reader of formulas is the grammar as document 01 lists it: tokens are read as a formula exactly where they spell it, so a text has
 -- at most one reading.

@@ -1,13 +1,12 @@
 -- What is asked of a node and of its operands, and what a call leaves. Assumes nothing.
-use mathlib.Core.Path.{_≡_, refl, ap}
+use mathlib.Core.Path.{_≡_}
 use mathlib.Core.List.{List}
 use Prim.Native.Nat.{ℕ, suc, _+_, _*_, _≤_, _<_}
 use native.Mathlib.Omega.{arith}
 use native.Mathlib.Nat.{mul-le-mul-right}
 use lib.ListN.{length}
 use Rattle.csl.specs.Text.{Text}
-use Rattle.csl.specs.Formula.{Formula, levels, levelsIn}
-use Rattle.csl.specs.Formula as csl
+use Rattle.csl.specs.Formula.{Formula, levels}
 use Rattle.csl.specs.Chain.{Chain}
 use Rattle.numbers.specs.Filled.{at}
 use Rattle.incoming_moves.specs.Shown.{IndexShows, index-kept}
@@ -16,29 +15,18 @@ use Rattle.vectors.specs.Prepared.{Prepared}
 use Rattle.vectors.specs.Owns.{Owns, owns-kept}
 use Rattle.formula.specs.Nodes.{kindAt}
 use Rattle.formula.specs.FormulaAt.{formulaAt, formulaOver, at-kind}
-use Rattle.formula.specs.Operands.{operandsOf}
-use Rattle.formula.specs.declared.nodes.Path.the-variants as path
 use Rattle.formula.specs.declared.nodes.Kind.{Kind}
-use Rattle.formula.specs.declared.nodes.Kind.the-variants as kind
 use Rattle.formula.specs.declared.nodes.Node.{Node}
 use Rattle.decide.specs.Asked.{Marked, DecideAsked, formulaOf, Decides}
-use Rattle.decide.specs.Rows.{rowsOf}
+use Rattle.decide.specs.Rows.{rowsFor}
+use Rattle.decide.specs.Enough.{levels-some}
 
 -- what a call leaves: the node's report, if it was asked
 abbrev pub Leaves : (mv ix l l' marks marks' : List ℕ) (nodes : List Node) (node limit n q r : ℕ) → Type 0
 Leaves mv ix l l' marks marks' nodes node limit n q r =
     (a : DecideAsked mv ix l marks nodes node limit n q) → Decides (a .c) (formulaOf a) n l l' marks marks' r
 
--- a formula has a level
-pub levels-some : (f : Formula) → 1 ≤ levels f
-unfolding levels
-levels-some csl.always = omega arith
-levels-some (csl.label w) = omega arith
-levels-some (csl.negated g) = omega arith
-levels-some (csl.both g h) = omega arith
-levels-some (csl.chance r p w) = omega arith
-
--- so no node is asked with 0 levels
+-- no node is asked with 0 levels
 pub leaves-none : {mv ix l marks : List ℕ} {nodes : List Node} {node limit n q r : ℕ} → limit ≡ 0 → Leaves mv ix l l marks marks nodes node limit n q r
 leaves-none z a = absurd (omega (arith, a .deep, levels-some (formulaOf a)))
 
@@ -46,17 +34,6 @@ leaves-none z a = absurd (omega (arith, a .deep, levels-some (formulaOf a)))
 pub marked-kept : (c : Chain) (names : List Text) {l l' : List ℕ} {n : ℕ} {f g : ℕ → ℕ} → Marked c names l n → EndsStored f g n l l'
     → Marked c names l' n
 marked-kept c names {n = n} m b i h s k = rw (b .after (marksFrom n + s) (omega arith)) (m i h s k)
-
--- a node of two operands has two levels, any other one
-rows-levels : (names : List Text) (look : ℕ → Formula) (k : Kind) → rowsOf (operandsOf k) ≤ levels (formulaOver names look k)
-unfolding levels levelsIn
-rows-levels names look kind.Always = omega arith
-rows-levels names look (kind.Label i) = omega arith
-rows-levels names look (kind.Negated x) = omega arith
-rows-levels names look (kind.Both x y) = omega (arith, levels-some (look x))
-rows-levels names look (kind.Chance c p (path.Until t x y)) = omega (arith, levels-some (look x))
-rows-levels names look (kind.Chance c p (path.Next x)) = omega arith
-rows-levels names look (kind.Chance c p (path.Between t u x y)) = omega (arith, levels-some (look x))
 
 pub still-owns : {c : Chain} {l l' : List ℕ} {n : ℕ} {f g : ℕ → ℕ} → Owns c l n → EndsStored f g n l l' → Owns c l' n
 still-owns o b = owns-kept o (b .after)
@@ -66,8 +43,8 @@ pub still-index : {c : Chain} {ix l l' : List ℕ} {n : ℕ} {f g : ℕ → ℕ}
 still-index {n = n} i b = index-kept i (λ t h. b .after (ownsFrom n + t) (omega arith))
 
 module _ {mv ix l marks : List ℕ} {nodes : List Node} {node limit n q : ℕ} (a : DecideAsked mv ix l marks nodes node (suc limit) n q) where
-  -- rows for as many levels, and the node's own
-  pub room-for : (k : ℕ) → k ≤ levels (formulaOf a) → k * n ≤ length marks
+  -- so many rows of those that the formula takes
+  pub room-for : (k : ℕ) → k ≤ rowsFor (formulaOf a) → k * n ≤ length marks
   room-for k h = omega (arith, a .room, mul-le-mul-right n h)
 
   -- the formula of an operand
@@ -76,7 +53,7 @@ module _ {mv ix l marks : List ℕ} {nodes : List Node} {node limit n q : ℕ} (
 
   -- an operand is asked, with a level less, of other words and marks
   abbrev pub operand : (x : ℕ) (l' m : List ℕ) → x < node → Prepared mv l' n q → Owns (a .c) l' n → (IndexShows (a .c) ix l (ownsFrom n) n → IndexShows (a .c) ix l' (ownsFrom n) n) → Marked (a .c) (a .names) l' n → levels (under x) ≤ limit
-      → levels (under x) * n ≤ length m → ((k : ℕ) → n ≤ k → at m k ≡ 0) → DecideAsked mv ix l' m nodes x limit n q
+      → rowsFor (under x) * n ≤ length m → ((k : ℕ) → n ≤ k → at m k ≡ 0) → DecideAsked mv ix l' m nodes x limit n q
   operand x l' m h prepared owns index marked deep room clear =
       record {
         c = a .c;
@@ -98,7 +75,3 @@ module _ {mv ix l marks : List ℕ} {nodes : List Node} {node limit n q : ℕ} (
   -- the node's formula, by its kind
   pub of-kind : (k : Kind) → kindAt nodes node ≡ k → formulaOf a ≡ formulaOver (a .names) under k
   of-kind k e = at-kind (a .names) limit nodes node k e
-
-  -- it has at least as many levels as its operands take rows
-  pub rows-most : rowsOf (operandsOf (kindAt nodes node)) ≤ levels (formulaOf a)
-  rows-most = omega (arith, ap levels (of-kind (kindAt nodes node) refl), rows-levels (a .names) under (kindAt nodes node))

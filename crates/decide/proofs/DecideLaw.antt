@@ -23,8 +23,8 @@ use Rattle.formula.specs.declared.operands.Operands.the-variants.{None, One, Tw
 use Rattle.decide.specs.Asked.{DecideAsked, formulaOf, Decides}
 use Rattle.decide.specs.Rows.{rowsOf, RowLeft}
 use Rattle.decide.specs.Node.{NodeAsked, NodeDecided, NodeLeaves}
-use Rattle.decide.proofs.OperandsLaw.{OperandsLeft}
-use Rattle.decide.proofs.AskedLaw.{room-for, under, of-kind, rows-most}
+use Rattle.decide.proofs.OperandsLaw.{operand-rows, OperandsLeft}
+use Rattle.decide.proofs.AskedLaw.{under, of-kind}
 
 -- the row that is left stands for those of the operands, where 0 stood behind it before
 row-stands : (o : Operands) (f : ℕ → ℕ) (n : ℕ) (m₀ m₁ m₂ : List ℕ) → ((k : ℕ) → n ≤ k → at m₀ k ≡ 0) → ((k : ℕ) → rowsOf o * n ≤ k → at m₁ k ≡ 0)
@@ -88,7 +88,7 @@ module _ {mv ix l marks : List ℕ} {nodes : List Node} {node limit n q : ℕ} (
           limits = a .fits node (omega arith) .limits;
           in-order = a .fits node (omega arith) .in-order;
           load = a .fits node (omega arith) .load;
-          held = omega (arith, left .held, room-for may-operands (rowsOf (operandsOf (kindAt nodes node))) (rows-most may-operands));
+          held = omega (arith, left .held, operand-rows may-operands);
         }
 
     pub is-decided : {l₂ m₂ : List ℕ} {r : ℕ} → ((b : NodeAsked mv ix l₁ m₁ (kindAt nodes node) n q) → NodeLeaves b l₂ m₂ r)

@@ -23,25 +23,50 @@ use Rattle.formula.specs.declared.nodes.Node.{Node}
 use Rattle.formula.specs.declared.operands.Operands.{Operands}
 use Rattle.formula.specs.declared.operands.Operands.the-variants.{None, One, Two}
 use Rattle.decide.specs.Asked.{DecideAsked, formulaOf}
-use Rattle.decide.specs.Rows.{rowsOf, RowsHold}
+use Rattle.decide.specs.Rows.{rowsFor, rowsIn, rowsOf, RowsHold}
+use Rattle.decide.specs.Enough.{rows-some}
 use Rattle.decide.proofs.RowsLaw.{ends-over, first-row, second-row}
-use Rattle.decide.proofs.AskedLaw.{Leaves, levels-some, marked-kept, still-owns, still-index, room-for, under, operand, of-kind}
+use Rattle.decide.proofs.AskedLaw.{Leaves, marked-kept, still-owns, still-index, room-for, under, operand, of-kind}
 
--- a formula has a level more than its operands
+-- a formula has a level more than its operands; it takes the rows of the first, and one more than the second does
 abbrev levelsOver : Operands → (ℕ → ℕ) → ℕ
 levelsOver None f = 1
 levelsOver (One x) f = 1 + f x
 levelsOver (Two x y) f = 1 + max (f x) (f y)
 
-levels-over : (names : List Text) (look : ℕ → Formula) (k : Kind) → levels (formulaOver names look k) ≡ levelsOver (operandsOf k) (λ x. levels (look x))
-unfolding levels levelsIn
-levels-over names look kind.Always = refl
-levels-over names look (kind.Label i) = refl
-levels-over names look (kind.Negated x) = refl
-levels-over names look (kind.Both x y) = refl
-levels-over names look (kind.Chance c p (path.Until t x y)) = refl
-levels-over names look (kind.Chance c p (path.Next x)) = refl
-levels-over names look (kind.Chance c p (path.Between t u x y)) = refl
+abbrev rowsOver : Operands → (ℕ → ℕ) → ℕ
+rowsOver None f = 1
+rowsOver (One x) f = f x
+rowsOver (Two x y) f = max (f x) (1 + f y)
+
+abbrev Over : List Text → (ℕ → Formula) → Kind → Type 0
+Over names look k =
+    (levels (formulaOver names look k) ≡ levelsOver (operandsOf k) (λ x. levels (look x)))
+    × (rowsFor (formulaOver names look k) ≡ rowsOver (operandsOf k) (λ x. rowsFor (look x)))
+
+over : (names : List Text) (look : ℕ → Formula) (k : Kind) → Over names look k
+unfolding levels levelsIn rowsFor rowsIn
+over names look kind.Always = (refl, refl)
+over names look (kind.Label i) = (refl, refl)
+over names look (kind.Negated x) = (refl, refl)
+over names look (kind.Both x y) = (refl, refl)
+over names look (kind.Chance c p (path.Until t x y)) = (refl, refl)
+over names look (kind.Chance c p (path.Next x)) = (refl, refl)
+over names look (kind.Chance c p (path.Between t u x y)) = (refl, refl)
+
+-- so it takes those that its operands leave
+rows-left : (o : Operands) (look : ℕ → Formula) → rowsOf o ≤ rowsOver o (λ x. rowsFor (look x))
+rows-left None look = omega arith
+rows-left (One x) look = rows-some (look x)
+rows-left (Two x y) look = omega (arith, rows-some (look y))
+
+module _ {mv ix l marks : List ℕ} {nodes : List Node} {node limit n q : ℕ} (a : DecideAsked mv ix l marks nodes node (suc limit) n q) where
+  pub operand-rows : rowsOf (operandsOf (kindAt nodes node)) * n ≤ length marks
+  operand-rows =
+      let k = kindAt nodes node in
+      let e : rowsFor (formulaOf a) ≡ rowsOver (operandsOf k) (λ x. rowsFor (under a x))
+      = ap rowsFor (of-kind a k refl) ∙ over (a .names) (under a) k .1 in
+      room-for a (rowsOf (operandsOf k)) (omega (arith, e, rows-left (operandsOf k) (under a)))
 
 -- The operands of a node are decided: their rows hold their verdicts, the rows behind hold 0, and all words but the ends are as they were.
 pub record OperandsLeft {mv ix l marks : List ℕ} {nodes : List Node} {node limit n q : ℕ} (a : DecideAsked mv ix l marks nodes node (suc limit) n q)
@@ -55,7 +80,10 @@ pub record OperandsLeft {mv ix l marks : List ℕ} {nodes : List Node} {node lim
 module _ {mv ix l marks : List ℕ} {nodes : List Node} {node limit n q : ℕ} (a : DecideAsked mv ix l marks nodes node (suc limit) n q)
     (o : Operands) (is : o ≡ operandsOf (kindAt nodes node)) where
   levels-are : (x : Operands) → o ≡ x → levels (formulaOf a) ≡ levelsOver x (λ y. levels (under a y))
-  levels-are x e = ap levels (of-kind a (kindAt nodes node) refl) ∙ levels-over (a .names) (under a) (kindAt nodes node) ∙ rw (← is, e) refl
+  levels-are x e = ap levels (of-kind a (kindAt nodes node) refl) ∙ over (a .names) (under a) (kindAt nodes node) .0 ∙ rw (← is, e) refl
+
+  rows-are : (x : Operands) → o ≡ x → rowsFor (formulaOf a) ≡ rowsOver x (λ y. rowsFor (under a y))
+  rows-are x e = ap rowsFor (of-kind a (kindAt nodes node) refl) ∙ over (a .names) (under a) (kindAt nodes node) .1 ∙ rw (← is, e) refl
 
   -- rows that hold the verdicts of the operands x, and are left so
   left-by : {l' m : List ℕ} (x : Operands) → o ≡ x → RowsHold x (λ y. found (a .c) (under a y)) m n → ((k : ℕ) → rowsOf x * n ≤ k → at m k ≡ 0)
@@ -72,10 +100,13 @@ module _ {mv ix l marks : List ℕ} {nodes : List Node} {node limit n q : ℕ} (
     pub deeper : levels (formulaOf a) ≡ 1 + levels (under a x)
     deeper = levels-are (One x) e
 
+    pub as-many : rowsFor (formulaOf a) ≡ rowsFor (under a x)
+    as-many = rows-are (One x) e
+
     abbrev pub may-one : DecideAsked mv ix l marks nodes x limit n q
     may-one =
         operand a x l marks (rw (← is, e) at (a .fits node (omega arith) .before)) (a .prepared) (a .owns) (λ i. i) (a .marked) (omega (arith, deeper, a .deep))
-        (room-for a (levels (under a x)) (omega (arith, deeper))) (a .clear)
+        (room-for a (rowsFor (under a x)) (omega (arith, as-many))) (a .clear)
 
     pub one-left : {l₁ m₁ : List ℕ} {r : ℕ} → Leaves mv ix l l₁ marks m₁ nodes x limit n q r → OperandsLeft a l₁ m₁
     one-left u =
@@ -88,24 +119,27 @@ module _ {mv ix l marks : List ℕ} {nodes : List Node} {node limit n q : ℕ} (
     pub deepest : levels (formulaOf a) ≡ 1 + max (levels (under a x)) (levels (under a y))
     deepest = levels-are (Two x y) e
 
+    pub most : rowsFor (formulaOf a) ≡ max (rowsFor (under a x)) (1 + rowsFor (under a y))
+    most = rows-are (Two x y) e
+
     pub before : (x < node) × (y < node)
     before = rw (← is, e) at (a .fits node (omega arith) .before)
 
     abbrev pub may-first : DecideAsked mv ix l marks nodes x limit n q
     may-first =
         operand a x l marks (before .0) (a .prepared) (a .owns) (λ i. i) (a .marked) (omega (arith, deepest, a .deep))
-        (room-for a (levels (under a x)) (omega (arith, deepest))) (a .clear)
+        (room-for a (rowsFor (under a x)) (omega (arith, most))) (a .clear)
 
     module _ {l₁ m₁ : List ℕ} {r₁ : ℕ} (u : Leaves mv ix l l₁ marks m₁ nodes x limit n q r₁) where
       pub two-rows : n + n ≤ length m₁
-      two-rows = omega (arith, room-for a 2 (omega (arith, deepest, levels-some (under a x))), u may-first .row .same)
+      two-rows = omega (arith, room-for a 2 (omega (arith, most, rows-some (under a y))), u may-first .row .same)
 
       abbrev pub may-second : DecideAsked mv ix l₁ (rest m₁ n) nodes y limit n q
       may-second =
           let v = u may-first in
           operand a y l₁ (rest m₁ n) (before .1) (ends-prepared (a .prepared) (v .ends)) (still-owns (a .owns) (v .ends)) (λ i. still-index i (v .ends))
           (marked-kept (a .c) (a .names) (a .marked) (v .ends)) (omega (arith, deepest, a .deep))
-          (omega (arith, room-for a (1 + levels (under a y)) (omega (arith, deepest)), v .row .same, rest-length m₁ n))
+          (omega (arith, room-for a (1 + rowsFor (under a y)) (omega (arith, most)), v .row .same, rest-length m₁ n))
           (λ k h. rest-at m₁ n k ∙ table-rest (v .row) (n + k) (omega arith) ∙ a .clear (n + k) (omega arith))
 
       -- when both are decided

@@ -26,6 +26,7 @@ use Rattle.formula.specs.Pass.{passed}
 use Rattle.formula.specs.declared.nodes.Kind.{Kind}
 use Rattle.formula.specs.declared.nodes.Node.{Node}
 use Rattle.formula.specs.declared.pass.Test.the-variants.{Labels, Limits, Order, Load, NoSearch}
+use Rattle.decide.specs.Rows.{rowsFor}
 
 -- the label marks among the vector words: in the word of each state, the bit of each name's place
 abbrev pub Marked : Chain → List Text → List ℕ → ℕ → Type 0
@@ -40,7 +41,8 @@ pub record NodeFits (names : List Text) (q k : ℕ) (x : Kind) : Type 0 where
   pub load : passed (Load q) x ≡ true
 
 -- A node is to be decided whose formula has no more levels than the limit: the words are prepared for a chain c whose labels have these names,
--- its rates to the own state are in their column, the index of its moves is there if a node may need a search, and the marks have a row for each level, all of which but the first hold 0.
+-- its rates to the own state are in their column, the index of its moves is there if a node may need a search, and the marks have the rows that
+-- the formula takes, all of which but the first hold 0.
 pub record DecideAsked (mv ix l marks : List ℕ) (nodes : List Node) (node limit n q : ℕ) : Type 0 where
   pub c : Chain
   pub names : List Text
@@ -54,7 +56,7 @@ pub record DecideAsked (mv ix l marks : List ℕ) (nodes : List Node) (node limi
   pub inside : node < mostNodes
   pub fits : (k : ℕ) → k ≤ node → NodeFits names q k (kindAt nodes k)
   pub deep : levels (formulaAt names limit nodes node) ≤ limit
-  pub room : levels (formulaAt names limit nodes node) * n ≤ length marks
+  pub room : rowsFor (formulaAt names limit nodes node) * n ≤ length marks
   pub clear : (k : ℕ) → n ≤ k → at marks k ≡ 0
 
 -- the formula of the node

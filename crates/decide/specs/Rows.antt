@@ -1,14 +1,29 @@
--- The rows that the operands of a node take, and the row that is left. Assumes nothing.
+-- The rows that a formula takes, those of a node's operands, and the row that is left. Assumes nothing.
 use mathlib.Core.Path.{_≡_}
 use mathlib.Core.List.{List}
-use Prim.Native.Nat.{ℕ, _+_, _<_}
+use Prim.Native.Nat.{ℕ, _+_, _<_, max}
+use Rattle.csl.specs.Formula.{Formula, always, label, negated, both, chance, Path, until, nextMove, between}
 use Rattle.csl.specs.Verdicts.{Verdict}
 use Rattle.numbers.specs.Filled.{at, Table, Twin}
 use Rattle.verdicts.specs.Byte.{verdictAt}
 use Rattle.formula.specs.declared.operands.Operands.{Operands}
 use Rattle.formula.specs.declared.operands.Operands.the-variants.{None, One, Two}
 
--- how many rows: the node's own, which its first operand takes, and one more for the second
+-- how many rows a formula takes: its first operand is decided in all of them, a second in all but the first
+unfoldable mutual
+  pub rowsFor : Formula → ℕ
+  rowsFor always = 1
+  rowsFor (label w) = 1
+  rowsFor (negated a) = rowsFor a
+  rowsFor (both a b) = max (rowsFor a) (1 + rowsFor b)
+  rowsFor (chance r p w) = rowsIn w
+
+  pub rowsIn : Path → ℕ
+  rowsIn (until t a b) = max (rowsFor a) (1 + rowsFor b)
+  rowsIn (nextMove a) = rowsFor a
+  rowsIn (between t u a b) = max (rowsFor a) (1 + rowsFor b)
+
+-- how many rows a node's operands leave: the node's own, which its first operand takes, and one more for the second
 abbrev pub rowsOf : Operands → ℕ
 rowsOf None = 1
 rowsOf (One a) = 1

@@ -27,8 +27,9 @@ use Rattle.csl.specs.Truth.{Obeys, Throughout, ThroughoutIn}
 use Rattle.csl.specs.Order.{isAbove, InOrder}
 use Rattle.csl.specs.Report.{Reported, backingOf, depthOf}
 use Rattle.csl.specs.Lent.{Buffers, lengths}
-use Rattle.csl.specs.Refusal.{Job, jobStates, jobMoves, jobChain, jobFormula, refusal, accepted, outcome}
+use Rattle.csl.specs.Refusal.{Job, jobStates, jobMoves, jobChain, jobFormula, shortBuffer, refusal, accepted, outcome}
 use Rattle.csl.specs.Finished.{Answer, refusedWith, acceptedWith, Finished}
+use Rattle.csl.specs.Laws.Lending.{ButForMarks}
 use Rattle.csl.specs.Theorems as theorems
 use Rattle.same_chain.specs.SameJob.{SameLines}
 use Rattle.same_chain.specs.Theorems as same
@@ -69,6 +70,13 @@ module _ (j : Job) (before : Buffers (List ℕ)) (a : Answer) (after : Buffers (
 pub finished-in-any-order : (a b : Text) → SameLines a b → (labels formula : Text) (before : Buffers (List ℕ)) (x : Answer) (after : Buffers (List ℕ))
     → Finished (jobWith a labels formula) before x after → Finished (jobWith b labels formula) before x after
 finished-in-any-order a b h labels formula before x after k = same.finished-in-any-order a b h labels formula before x after k
+
+-- "Ends, depths, verdicts and listings equal those of the larger buffer": buffers that differ in the marks alone, long enough in both or in neither, are
+-- the same to all that is demanded but for the marks themselves (that `checker::check` leaves the same bytes is `same-but-for-marks` of
+-- checker/specs/OtherMarks)
+pub finished-with-other-marks : (j : Job) (x y : Buffers (List ℕ)) → ButForMarks x y → shortBuffer j (lengths x) ≡ shortBuffer j (lengths y)
+    → (a : Answer) (left : Buffers (List ℕ)) → Finished j x a left → (other : Buffers (List ℕ)) × Finished j y a other × ButForMarks left other
+finished-with-other-marks j x y same h a left f = theorems.marks-change-nothing-else j x y same h a left f
 
 -- ".. rate, depth and labels exact": an accepted job is decided over the chain of its texts, at that chain's greatest exit rate. (That the
 -- code's q is this one is the field `q` of what `refusals::test_sheet` promises: `dimensionsOf` of refusals/specs/Sheet.)

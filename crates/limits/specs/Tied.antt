@@ -25,3 +25,4 @@ pub record Tied (r : Limits) : Type 0 where
   pub words : r .words ≡ csl.movePlaces
   pub places : r .places ≡ csl.vectorPlaces
   pub besides : r .besides ≡ csl.vectorSpare
+  pub rows : r .rows ≡ csl.mostRows

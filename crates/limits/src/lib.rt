@@ -58,6 +58,9 @@ pub const VECTOR_PLACES: usize = 10;
 
 pub const VECTOR_SPARE: usize = 512;
 
+// The lent mark bytes: one for each state in so many rows at most.
+pub const MOST_ROWS: usize = 17;
+
 // All constants, each under one word.
 struct Limits {
     billion: u64,
@@ -81,6 +84,7 @@ struct Limits {
     words: usize,
     places: usize,
     besides: usize,
+    rows: usize,
 }
 
 // The constants are the definition's numbers. Nothing calls this: it is here to be proved.
@@ -109,5 +113,6 @@ fn all() -> Limits
         words: MOVE_PLACES,
         places: VECTOR_PLACES,
         besides: VECTOR_SPARE,
+        rows: MOST_ROWS,
     }
 }

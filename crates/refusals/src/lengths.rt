@@ -26,5 +26,5 @@ pub fn too_short(lent: Lengths, sheet: Dimensions, nodes: usize) -> bool
     let results = (lent.lower < n) | (lent.upper < n) | (lent.verdicts < n) | (lent.order < n);
     let words = (lent.moves < limits::MOVE_PLACES * sheet.moves)
         | (lent.vectors < vectors::length(n));
-    results | words | (lent.marks < nodes * n)
+    results | words | (lent.marks < verdict_rows::length(n, nodes))
 }

@@ -1,14 +1,13 @@
 -- What a job whose texts are not turned back has at most, and that the program's buffers are long enough for it. Assumes nothing.
 use mathlib.Core.Path.{_≡_}
 use mathlib.Core.Bool.{true, false, and-eq-true-iff}
-use Prim.Native.Nat.{ℕ, zero, suc, _+_, _*_, _-_, _≤_, _<_}
+use Prim.Native.Nat.{ℕ, zero, suc, _+_, _*_, _-_, _≤_, _<_, min}
 use native.Mathlib.Omega.{arith}
-use native.Mathlib.Nat.{mul-le-mul-right}
 use lib.ListN.{length}
 use lib.Dec.{leb}
 use borrow.Author.Tests.{leb-true, le-ltb}
 use Rattle.csl.specs.Text.{any}
-use Rattle.csl.specs.Limits.{billion, mostNodes, mostRateHundredths}
+use Rattle.csl.specs.Limits.{billion, mostRateHundredths}
 use Rattle.csl.specs.Formula.{Formula, always, label, negated, both, chance, Path, until, nextMove, between, pathOf, Comparison, nodes, phasesPass, pathsPass}
 use Rattle.csl.specs.Chain.{Chain, topRate, load, depth}
 use Rattle.csl.specs.Path.{meaning}
@@ -23,12 +22,11 @@ use Rattle.accepted.specs.Job.{Passed}
 module _ (j : Job) (p : Passed j) where
   -- lent buffers of these lengths are long enough
   pub none-short : (lent : Buffers ℕ) → 512 ≤ lent .lower → 512 ≤ lent .upper → 512 ≤ lent .verdicts → 512 ≤ lent .order
-      → 8192 ≤ lent .moves → 5632 ≤ lent .vectors → 32768 ≤ lent .marks → shortBuffer j lent ≡ false
+      → 8192 ≤ lent .moves → 5632 ≤ lent .vectors → 8704 ≤ lent .marks → shortBuffer j lent ≡ false
   unfolding shortBuffer isShort rooms any
   none-short lent a b c d e f g =
       let n : jobStates j ≤ 512 = p .sheet .sound .few-states in
       let m : length (jobMoves j) ≤ 4096 = p .sheet .sound .few-moves in
-      let k : nodes (jobFormula j) ≤ mostNodes = p .formula .fitting .few-nodes in
       simp (
         le-ltb (lent .lower) (jobStates j) (omega arith),
         le-ltb (lent .upper) (jobStates j) (omega arith),
@@ -36,7 +34,7 @@ module _ (j : Job) (p : Passed j) where
         le-ltb (lent .order) (jobStates j) (omega arith),
         le-ltb (lent .moves) (2 * length (jobMoves j)) (omega arith),
         le-ltb (lent .vectors) (10 * jobStates j + 512) (omega arith),
-        le-ltb (lent .marks) (nodes (jobFormula j) * jobStates j) (omega (arith, mul-le-mul-right (jobStates j) k)),
+        le-ltb (lent .marks) (min (17 * jobStates j) (nodes (jobFormula j) * jobStates j)) (omega arith),
       )
 
 -- the depth of a load that is not too high

@@ -43,7 +43,7 @@ pub record Roomy (b : Buffers (List ℕ)) : Type 0 where
   pub places : 512 ≤ length (b .order)
   pub words : 8192 ≤ length (b .moves)
   pub vectors : 5632 ≤ length (b .vectors)
-  pub marks : 32768 ≤ length (b .marks)
+  pub marks : 8704 ≤ length (b .marks)
 
 -- the rendering is the text for the job, and the answer has its number
 pub record TextFor (j : Job) (a : Answer) (old new : List ℕ) (r : Rendered) : Type 0 where

@@ -16,7 +16,7 @@ const MOVE_WORDS: usize = limits::MOVE_PLACES * limits::MOST_MOVES;
 
 const VECTOR_WORDS: usize = limits::VECTOR_PLACES * MOST_STATES + limits::VECTOR_SPARE;
 
-const MARK_BYTES: usize = limits::MOST_NODES * MOST_STATES;
+const MARK_BYTES: usize = limits::MOST_ROWS * MOST_STATES;
 
 // The length of a buffer that has room for every printed text.
 pub const TEXT_BYTES: usize = 65536;

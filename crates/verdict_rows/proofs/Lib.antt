@@ -1,3 +1,4 @@
 -- Laws that the proofs of the functions lean on.
+mod LentLaw
 mod RowLaw
 mod DecidedLaw

@@ -7,6 +7,9 @@ use Rattle.checker.proofs.passed.clear_all.Tie as tie
 length-requires : tie.Need-length-requires
 length-requires c κs = search needs
 
+length-requires-2 : tie.Need-length-requires-2
+length-requires-2 c κs = search needs
+
 mul-clear-words : tie.Need-mul-clear-words
 mul-clear-words c = search needs
 
@@ -15,9 +18,6 @@ clear-words-requires c κs = search needs
 
 clear-words-requires-2 : tie.Need-clear-words-requires-2
 clear-words-requires-2 c κs = search needs
-
-mul-clear : tie.Need-mul-clear
-mul-clear c = search needs
 
 clear-requires : tie.Need-clear-requires
 clear-requires c κs = search needs
@@ -39,10 +39,10 @@ clear-all-spec =
     tie.close
     (tie.spec
     length-requires
+    length-requires-2
     mul-clear-words
     clear-words-requires
     clear-words-requires-2
-    mul-clear
     clear-requires
     same-length
     same-length-2

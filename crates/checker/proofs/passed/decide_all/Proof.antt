@@ -1,5 +1,5 @@
 -- `decide_all` meets its contract. Assumes nothing.
-use Rattle.checker.proofs.ReportLaw.{decide-laws, store-asked, some, end-fits, byte-fits, marks-counted, decide-asked, all-decided}
+use Rattle.checker.proofs.ReportLaw.{decide-laws, store-asked, small, some, few-nodes, end-fits, byte-fits, marks-counted, decide-asked, all-decided}
 use mathlib.Core.Path.{refl}
 use borrow.Author.Needs.{needs}
 use Rattle.checker.proofs.passed.decide_all.Statement.{statement}
@@ -8,8 +8,8 @@ use Rattle.checker.proofs.passed.decide_all.Tie as tie
 sub-root : tie.Need-sub-root
 sub-root c = search (needs, some)
 
-mul-rows : tie.Need-mul-rows
-mul-rows c = search needs
+length-requires : tie.Need-length-requires
+length-requires c κs = search (needs, small, few-nodes)
 
 all-pass-requires : tie.Need-all-pass-requires
 all-pass-requires c κs = search needs
@@ -46,16 +46,18 @@ slice-aggregate-decide-2 c =
     let cleared = c .before .before .before .before .before .before .before in
     let stored = cleared .before .before .before .before .before .before in
     let asked = stored .before .before .before in
-    let began = asked .before .before .before .before .before .before .before .before in
-    search (needs, marks-counted (began .pre) (asked .all-pass .ensures) refl (stored .store .ensures) (cleared .clear .ensures))
+    let measured = asked .before in
+    let began = measured .before .before .before .before .before .before .before in
+    search (needs, marks-counted (began .pre) (asked .all-pass .ensures) refl (stored .store .ensures) (measured .length .ensures) (cleared .clear .ensures))
 
 decide-requires : tie.Need-decide-requires
 decide-requires c κs =
     let cleared = c .before .before .before .before .before .before .before in
     let stored = cleared .before .before .before .before .before .before in
     let asked = stored .before .before .before in
-    let began = asked .before .before .before .before .before .before .before .before in
-    decide-asked (began .pre) (asked .all-pass .ensures) refl (stored .store .ensures) (cleared .clear .ensures)
+    let measured = asked .before in
+    let began = measured .before .before .before .before .before .before .before in
+    decide-asked (began .pre) (asked .all-pass .ensures) refl (stored .store .ensures) (measured .length .ensures) (cleared .clear .ensures)
 
 same-length : tie.Need-same-length
 same-length c = search needs
@@ -72,15 +74,16 @@ returns c =
     let cleared = decided .before .before .before .before .before .before .before .before in
     let stored = cleared .before .before .before .before .before .before in
     let asked = stored .before .before .before in
-    let began = asked .before .before .before .before .before .before .before .before in
-    all-decided (began .pre) (asked .all-pass .ensures) refl (stored .store .ensures) (cleared .clear .ensures) (decided .decide .ensures)
+    let measured = asked .before in
+    let began = measured .before .before .before .before .before .before .before in
+    all-decided (began .pre) (asked .all-pass .ensures) refl (stored .store .ensures) (measured .length .ensures) (cleared .clear .ensures) (decided .decide .ensures)
 
 pub decide-all-spec : {M : Type 1} → statement M
 decide-all-spec =
     tie.close
     (tie.spec
     sub-root
-    mul-rows
+    length-requires
     all-pass-requires
     store-requires
     clear-requires
