@@ -98,3 +98,9 @@ module _ (j : Job) (lent : Buffers ℕ) where
       → outcome j lent ≡ accepted (jobChain j) (jobFormula j) (topRate (jobChain j)) (depthOf (jobChain j) (jobFormula j))
   unfolding outcome outcomeBy firstOf
   accepted-by-all h b = let e : refusal j lent ≡ none = left h ∙ rw b refl in ap (outcomeBy j) e
+
+  -- of an accepted job no buffer is too short
+  pub accepted-long : refusal j lent ≡ none → shortBuffer j lent ≡ false
+  unfolding refusal NoneHolds
+  accepted-long h =
+      first-none (test 15 (shortBuffer j lent) ∷ []) (none-right (textTests j) (test 15 (shortBuffer j lent) ∷ []) (first-none _ h)) .0

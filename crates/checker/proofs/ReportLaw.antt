@@ -12,7 +12,7 @@ use borrow.Author.Tests.{ltb-true, ltb-false}
 use mir.Val.{Fits}
 use mir.Syntax.{w64}
 use Rattle.csl.specs.Text.{Text}
-use Rattle.csl.specs.Limits.{mostStates, mostMoves, mostNodes, mostLevels, movePlaces}
+use Rattle.csl.specs.Limits.{mostStates, mostMoves, mostLevels, movePlaces}
 use Rattle.csl.specs.Labels.{namesOf, statesOf}
 use Rattle.csl.specs.Moves.{movesOf}
 use Rattle.csl.specs.Formula.{nodes}
@@ -99,12 +99,6 @@ module _ {m₀ labels : Text} {d : Dimensions} {x : Nodes} {words₀ vectors₀ 
         long = rw (states-are (r .ready)) at (r .in-vectors);
       }
 
-  pub clear-asked : {b : ℕ} → b ≡ rowsLength (d .states) (x .count) → b ≤ length marks₀
-  clear-asked e = omega (arith, r .in-marks)
-
-  pub few-nodes : x .count ≤ mostNodes
-  few-nodes = r .ready .few-nodes
-
   -- where a node may need a search, not all do without
   pub searched : {passes wanted : Bool} → passes ≡ allPassed NoSearch x → wanted ≡ not passes → (k : ℕ) → k < x .count
       → passed NoSearch (kindAt (x .nodes) k) ≡ false → wanted ≡ true
@@ -155,7 +149,7 @@ module _ {m₀ labels : Text} {d : Dimensions} {x : Nodes} {words₀ vectors₀ 
           inside = omega (arith, some, r .ready .few-nodes);
           fits = rw (q-is (r .ready)) (λ k h. r .ready .fits k (omega (arith, some)));
           deep = r .ready .few-levels;
-          room = omega (arith, marks-counted, rows-counted, rows-fit (formulaIn labels x) (d .states) 0 (r .ready .few-levels));
+          room = omega (arith, marks-counted, rows-counted, rows-fit (formulaIn labels x) (d .states) (r .ready .few-levels));
           clear = λ k h. front-zero marks₀ marks b marks-long z k;
         }
 
@@ -165,9 +159,6 @@ module _ {m₀ labels : Text} {d : Dimensions} {x : Nodes} {words₀ vectors₀ 
         → Decides (a .c) (formulaOf a) (d .states) vectors vectors' (take b marks) part depth) where
       decides : Decides (chainIn m₀ labels) (formulaIn labels x) (d .states) vectors vectors' (take b marks) part depth
       decides = e decide-asked
-
-      back : List ℕ
-      back = part ++ drop b marks
 
       one-row : d .states ≤ b
       one-row = omega (arith, mul-le-mul-right (d .states) some)
@@ -191,8 +182,6 @@ module _ {m₀ labels : Text} {d : Dimensions} {x : Nodes} {words₀ vectors₀ 
             marks-beyond = rw (← states-are (r .ready)) λ i h.
                 let j : b ≤ i = omega (arith, measured) in front-beyond marks part b marks-long (decides .row .same) i j ∙ table-rest z i j;
           }
-
-pub ruleset decide-laws = (small, some, few-nodes, store-asked, clear-asked, words-long, words-counted, index-long, few-moves, marks-long, marks-counted)
 
 drop-beyond : (n : ℕ) (l l₀ : List ℕ) → length l ≡ length l₀ → ((k : ℕ) → n ≤ k → at l k ≡ at l₀ k) → drop n l ≡ drop n l₀
 drop-beyond n l l₀ e h =

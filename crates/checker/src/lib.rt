@@ -111,13 +111,13 @@ fn check_formula(
 }
 
 // Checks a job. With n states and m move lines the caller lends n lower and upper numbers, verdict bytes and numbers for the order, two move
-// words for each line, the vector words that crates/vectors lays out, and mark bytes as `verdict_rows::length` counts them.
+// words for each line, the vector words that crates/vectors lays out, and 17 × n mark bytes, or n for each node where that is less.
 //
 // `finished` leaves open what document 01 does: the two ends of a `P` (numbers that keep the rules for ends), and the verdicts and later ends that
 // follow from them. All else is determined, for all texts and lengths: refused or accepted, the number or the depth, and every place of every
 // lent buffer. `found` says which ends they are, by the chain and the formula alone: so move lines in another order leave the same bytes, and so do
-// repeated pairs in the results (`same-bytes` and `same-report` of specs/Alike), and marks of any length that is enough in all other buffers
-// (`same-but-for-marks` of specs/OtherMarks).
+// repeated pairs in the results (`same-bytes` and `same-report` of specs/Alike); and where other marks are lent, long enough as well, all other
+// buffers are left the same (`same-but-for-marks` of specs/OtherMarks).
 pub fn check(
     moves: &[u8],
     labels: &[u8],

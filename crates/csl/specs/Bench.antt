@@ -293,8 +293,8 @@ pub record AnyOrder : Type 0 where
   pub empty-moves : copyRefusal [] (bytes "state\n0\n") 0 ≡ some 1
   pub strange-copy : copyRefusal (bytes "from,to,rate\n0,1,5\n") (bytes "state\n0\n") 0 ≡ some 6
 
--- The lent marks of the small sheet, which has two states: a formula of 3 nodes, of 17 and of 19.
-pub record LentMarks : Type 0 where
+-- The mark bytes of the small sheet, which has two states, with a formula of 3 nodes, of 17 and of 19.
+pub record SmallerMarkBuffer : Type 0 where
   -- "nodes × n where that is less"
   pub three-short : refusal (small "& up dead\n") (lengths (lentMarks 5)) ≡ some 15
   pub three-long : refusal (small "& up dead\n") (lengths (lentMarks 6)) ≡ none

@@ -22,7 +22,7 @@ pub record Buffers (A : Type 0) : Type 0 where
   pub vectors : A
   pub marks : A
 
--- n states, m move lines, k nodes
+-- n states, m move lines, k nodes; "15 and the zeros after acceptance use the new length": both go by these
 abbrev pub needed : ℕ → ℕ → ℕ → Buffers ℕ
 needed n m k =
     record {
@@ -60,7 +60,7 @@ rooms l n =
     room (l .lower) (n .lower) ∷ room (l .upper) (n .upper) ∷ room (l .verdicts) (n .verdicts) ∷ room (l .order) (n .order)
     ∷ room (l .moves) (n .moves) ∷ room (l .vectors) (n .vectors) ∷ room (l .marks) (n .marks) ∷ []
 
--- "a lent buffer too short"; "15 covers it too"; "15 and the zeros after acceptance use the new length"
+-- "a lent buffer too short"; "15 covers it too"
 unfoldable pub isShort : Buffers ℕ → Buffers ℕ → Bool
 isShort l n = any (λ r. ltb (r .lent) (r .need)) (rooms l n)
 

@@ -7,7 +7,7 @@ use Prim.Native.Nat.{ℕ, suc, _+_, _*_, _-_, _≤_, _<_, min}
 use mathlib.Core.List.{List, _++_}
 use mathlib.Core.Option.{none, some}
 use lib.Dec.{leb, eqb}
-use borrow.Author.Tests.{le-leb, le-ltb, lt-ltb}
+use borrow.Author.Tests.{le-leb, le-ltb}
 use lib.ListN.{length, drop, replicate}
 use native.Mathlib.Omega.{arith}
 use Rattle.csl.specs.Text.{Text, any}
@@ -35,7 +35,7 @@ use Rattle.csl.specs.Report.{Reported, backingOf, depthOf}
 use Rattle.csl.specs.Lent.{Buffers, lengths, needed, isShort, filled}
 use Rattle.csl.specs.Refusal.{Job, jobChain, formulaTests, firstOf, formulaFrom, isMissing, largeFormula, strangeLabel, wrongBound, wrongTimes, highLoad, shortBuffer}
 use Rattle.csl.specs.Finished.{Answer, Finished}
-use Rattle.csl.specs.Bench.{small, up, dead, eight, Accepts, BenchValues, DecimalHours, NextMoves, SecondListing, PossibleAndCertain, NotBeforeAnHour, AnyOrder, LentMarks, EightHours, TrialQuotients}
+use Rattle.csl.specs.Bench.{small, up, dead, eight, Accepts, BenchValues, DecimalHours, NextMoves, SecondListing, PossibleAndCertain, NotBeforeAnHour, AnyOrder, SmallerMarkBuffer, EightHours, TrialQuotients}
 use Rattle.csl.specs.Laws.Computing.{computing}
 use Rattle.csl.specs.Laws.Fraction.{under-below}
 use Rattle.csl.specs.Laws.Steps.{step-le, step-rises, divisor-some}
@@ -56,7 +56,7 @@ use Rattle.csl.specs.Laws.Backing.{kept-operands}
 use Rattle.csl.specs.Laws.Throughout.{throughout, sides, sides-throughout, Together, backings-agree}
 use Rattle.csl.specs.Laws.Grammar.{read-if-spelled, spelled-if-read}
 use Rattle.csl.specs.Laws.Order.{rows-rank, ordered-in-order, only-in-order, order-same}
-use Rattle.csl.specs.Laws.Lending.{marks-alone, marks-left, ButForMarks, finished-alike}
+use Rattle.csl.specs.Laws.Lending.{marks-alone, marks-short, marks-left, ButForMarks, long-alike, finished-alike}
 use Rattle.csl.specs.Laws.Bench as bench
 use Rattle.csl.specs.Laws.BenchNext as next-bench
 use Rattle.csl.specs.Laws.BenchGraph as graph-bench
@@ -244,8 +244,8 @@ not-before-an-hour = between-bench.not-before-an-hour
 pub moves-in-any-order : AnyOrder
 moves-in-any-order = order-bench.any-order
 
-pub marks-of-three-and-of-nineteen-nodes : LentMarks
-marks-of-three-and-of-nineteen-nodes = marks-bench.lent-marks
+pub smaller-mark-buffer : SmallerMarkBuffer
+smaller-mark-buffer = marks-bench.smaller-mark-buffer
 
 pub eight-hours-of-every-report : (lower upper : ℕ → ℕ) (v : ℕ → Verdict)
     → Reported (jobChain (small "P <= 10000000 U 8 up dead\n")) (chance AtMost 10000000 (until eight up dead)) lower upper v → EightHours lower upper v
@@ -449,9 +449,14 @@ module _ (l : Buffers ℕ) (n m k : ℕ) (others : isShort l (needed n m 0) ≡ 
   pub a-row-for-each-node-is-enough : k * n ≤ l .marks → isShort l (needed n m k) ≡ false
   a-row-for-each-node-is-enough h = marks-alone l n m k others ∙ le-ltb (l .marks) (min (17 * n) (k * n)) (omega arith)
 
-  -- "15 and the zeros after acceptance use the new length"
-  pub less-than-both-is-too-short : l .marks < 17 * n → l .marks < k * n → isShort l (needed n m k) ≡ true
-  less-than-both-is-too-short h i = marks-alone l n m k others ∙ lt-ltb (l .marks) (min (17 * n) (k * n)) (omega arith)
+-- and so, where buffers are long enough, are others with as many marks
+pub marks-of-the-new-length-are-enough : (x y : Buffers (List ℕ)) → ButForMarks x y → (n m k : ℕ) → isShort (lengths x) (needed n m k) ≡ false
+    → min (17 * n) (k * n) ≤ length (y .marks) → isShort (lengths y) (needed n m k) ≡ false
+marks-of-the-new-length-are-enough x y same n m k h l = long-alike x y same n m k h l
+
+-- "15 and the zeros after acceptance use the new length"
+pub less-than-both-is-too-short : (l : Buffers ℕ) (n m k : ℕ) → l .marks < 17 * n → l .marks < k * n → isShort l (needed n m k) ≡ true
+less-than-both-is-too-short l n m k h i = marks-short l n m k (omega arith)
 
 pub marks-hold-0-to-the-new-length : (n m k : ℕ) (lower upper : ℕ → ℕ) (v : ℕ → Verdict) (old : Buffers (List ℕ))
     → filled n m k lower upper v old .marks ≡ replicate (min (17 * n) (k * n)) 0 ++ drop (min (17 * n) (k * n)) (old .marks)

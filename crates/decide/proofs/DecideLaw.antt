@@ -88,7 +88,7 @@ module _ {mv ix l marks : List ℕ} {nodes : List Node} {node limit n q : ℕ} (
           limits = a .fits node (omega arith) .limits;
           in-order = a .fits node (omega arith) .in-order;
           load = a .fits node (omega arith) .load;
-          held = omega (arith, left .held, operand-rows may-operands);
+          held = omega (arith, left .held, operand-rows may-operands (operandsOf (kindAt nodes node)) refl);
         }
 
     pub is-decided : {l₂ m₂ : List ℕ} {r : ℕ} → ((b : NodeAsked mv ix l₁ m₁ (kindAt nodes node) n q) → NodeLeaves b l₂ m₂ r)

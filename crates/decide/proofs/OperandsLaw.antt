@@ -60,14 +60,6 @@ rows-left None look = omega arith
 rows-left (One x) look = rows-some (look x)
 rows-left (Two x y) look = omega (arith, rows-some (look y))
 
-module _ {mv ix l marks : List ℕ} {nodes : List Node} {node limit n q : ℕ} (a : DecideAsked mv ix l marks nodes node (suc limit) n q) where
-  pub operand-rows : rowsOf (operandsOf (kindAt nodes node)) * n ≤ length marks
-  operand-rows =
-      let k = kindAt nodes node in
-      let e : rowsFor (formulaOf a) ≡ rowsOver (operandsOf k) (λ x. rowsFor (under a x))
-      = ap rowsFor (of-kind a k refl) ∙ over (a .names) (under a) k .1 in
-      room-for a (rowsOf (operandsOf k)) (omega (arith, e, rows-left (operandsOf k) (under a)))
-
 -- The operands of a node are decided: their rows hold their verdicts, the rows behind hold 0, and all words but the ends are as they were.
 pub record OperandsLeft {mv ix l marks : List ℕ} {nodes : List Node} {node limit n q : ℕ} (a : DecideAsked mv ix l marks nodes node (suc limit) n q)
     (l' marks' : List ℕ) : Type 0 where
@@ -85,6 +77,9 @@ module _ {mv ix l marks : List ℕ} {nodes : List Node} {node limit n q : ℕ} (
   rows-are : (x : Operands) → o ≡ x → rowsFor (formulaOf a) ≡ rowsOver x (λ y. rowsFor (under a y))
   rows-are x e = ap rowsFor (of-kind a (kindAt nodes node) refl) ∙ over (a .names) (under a) (kindAt nodes node) .1 ∙ rw (← is, e) refl
 
+  pub operand-rows : rowsOf o * n ≤ length marks
+  operand-rows = room-for a (rowsOf o) (omega (arith, rows-are o refl, rows-left o (under a)))
+
   -- rows that hold the verdicts of the operands x, and are left so
   left-by : {l' m : List ℕ} (x : Operands) → o ≡ x → RowsHold x (λ y. found (a .c) (under a y)) m n → ((k : ℕ) → rowsOf x * n ≤ k → at m k ≡ 0)
       → length m ≡ length marks → length l' ≡ length l → ((k : ℕ) → 2 * n ≤ k → at l' k ≡ at l k) → OperandsLeft a l' m
@@ -100,13 +95,13 @@ module _ {mv ix l marks : List ℕ} {nodes : List Node} {node limit n q : ℕ} (
     pub deeper : levels (formulaOf a) ≡ 1 + levels (under a x)
     deeper = levels-are (One x) e
 
-    pub as-many : rowsFor (formulaOf a) ≡ rowsFor (under a x)
-    as-many = rows-are (One x) e
+    pub rows-same : rowsFor (formulaOf a) ≡ rowsFor (under a x)
+    rows-same = rows-are (One x) e
 
     abbrev pub may-one : DecideAsked mv ix l marks nodes x limit n q
     may-one =
         operand a x l marks (rw (← is, e) at (a .fits node (omega arith) .before)) (a .prepared) (a .owns) (λ i. i) (a .marked) (omega (arith, deeper, a .deep))
-        (room-for a (rowsFor (under a x)) (omega (arith, as-many))) (a .clear)
+        (room-for a (rowsFor (under a x)) (omega (arith, rows-same))) (a .clear)
 
     pub one-left : {l₁ m₁ : List ℕ} {r : ℕ} → Leaves mv ix l l₁ marks m₁ nodes x limit n q r → OperandsLeft a l₁ m₁
     one-left u =
@@ -119,8 +114,8 @@ module _ {mv ix l marks : List ℕ} {nodes : List Node} {node limit n q : ℕ} (
     pub deepest : levels (formulaOf a) ≡ 1 + max (levels (under a x)) (levels (under a y))
     deepest = levels-are (Two x y) e
 
-    pub most : rowsFor (formulaOf a) ≡ max (rowsFor (under a x)) (1 + rowsFor (under a y))
-    most = rows-are (Two x y) e
+    pub rows-most : rowsFor (formulaOf a) ≡ max (rowsFor (under a x)) (1 + rowsFor (under a y))
+    rows-most = rows-are (Two x y) e
 
     pub before : (x < node) × (y < node)
     before = rw (← is, e) at (a .fits node (omega arith) .before)
@@ -128,18 +123,18 @@ module _ {mv ix l marks : List ℕ} {nodes : List Node} {node limit n q : ℕ} (
     abbrev pub may-first : DecideAsked mv ix l marks nodes x limit n q
     may-first =
         operand a x l marks (before .0) (a .prepared) (a .owns) (λ i. i) (a .marked) (omega (arith, deepest, a .deep))
-        (room-for a (rowsFor (under a x)) (omega (arith, most))) (a .clear)
+        (room-for a (rowsFor (under a x)) (omega (arith, rows-most))) (a .clear)
 
     module _ {l₁ m₁ : List ℕ} {r₁ : ℕ} (u : Leaves mv ix l l₁ marks m₁ nodes x limit n q r₁) where
       pub two-rows : n + n ≤ length m₁
-      two-rows = omega (arith, room-for a 2 (omega (arith, most, rows-some (under a y))), u may-first .row .same)
+      two-rows = omega (arith, room-for a 2 (omega (arith, rows-most, rows-some (under a y))), u may-first .row .same)
 
       abbrev pub may-second : DecideAsked mv ix l₁ (rest m₁ n) nodes y limit n q
       may-second =
           let v = u may-first in
           operand a y l₁ (rest m₁ n) (before .1) (ends-prepared (a .prepared) (v .ends)) (still-owns (a .owns) (v .ends)) (λ i. still-index i (v .ends))
           (marked-kept (a .c) (a .names) (a .marked) (v .ends)) (omega (arith, deepest, a .deep))
-          (omega (arith, room-for a (1 + rowsFor (under a y)) (omega (arith, most)), v .row .same, rest-length m₁ n))
+          (omega (arith, room-for a (1 + rowsFor (under a y)) (omega (arith, rows-most)), v .row .same, rest-length m₁ n))
           (λ k h. rest-at m₁ n k ∙ table-rest (v .row) (n + k) (omega arith) ∙ a .clear (n + k) (omega arith))
 
       -- when both are decided

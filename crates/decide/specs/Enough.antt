@@ -5,20 +5,11 @@ use native.Mathlib.Omega.{arith}
 use native.Mathlib.Nat.{mul-le-mul-right}
 use Rattle.csl.specs.Limits.{mostLevels, mostRows}
 use Rattle.csl.specs.Formula.{Formula, always, label, negated, both, chance, Path, until, nextMove, between, nodes, levels, levelsIn}
-use Rattle.csl.specs.Lent.{needed}
 use Rattle.formula.specs.Stored.{levels-nodes}
+use Rattle.verdict_rows.specs.Row.{rowsLength}
 use Rattle.decide.specs.Rows.{rowsFor, rowsIn}
 
--- a formula has a level
-pub levels-some : (f : Formula) → 1 ≤ levels f
-unfolding levels
-levels-some always = omega arith
-levels-some (label w) = omega arith
-levels-some (negated a) = omega arith
-levels-some (both a b) = omega arith
-levels-some (chance r p w) = omega arith
-
--- and takes a row
+-- a formula takes a row
 mutual
   unfolding rowsFor rowsIn
 
@@ -50,6 +41,10 @@ mutual
   rows-in-levels (nextMove a) = omega (arith, rows-levels a)
   rows-in-levels (between t u a b) = omega (arith, rows-levels a, rows-levels b)
 
+-- so it has a level
+pub levels-some : (f : Formula) → 1 ≤ levels f
+levels-some f = omega (arith, rows-some f, rows-levels f)
+
 -- "nested at most 16 deep": 16 rows always do, so one of the 17 that are lent is to spare
 pub sixteen-do : (f : Formula) → levels f ≤ mostLevels → rowsFor f ≤ 16
 sixteen-do f h = omega (arith, rows-levels f)
@@ -64,8 +59,8 @@ unfolding levels rowsFor
 sixteen-are-taken = (refl, refl)
 
 -- "mark bytes of 17 × n, or nodes × n where that is less, shall be enough": the rows fit
-pub rows-fit : (f : Formula) (n m : ℕ) → levels f ≤ mostLevels → rowsFor f * n ≤ needed n m (nodes f) .marks
-rows-fit f n m h =
+pub rows-fit : (f : Formula) (n : ℕ) → levels f ≤ mostLevels → rowsFor f * n ≤ rowsLength n (nodes f)
+rows-fit f n h =
     let x : rowsFor f * n ≤ mostRows * n = mul-le-mul-right n (omega (arith, rows-levels f)) in
     let y : rowsFor f * n ≤ nodes f * n = mul-le-mul-right n (omega (arith, rows-levels f, levels-nodes f)) in
     omega arith

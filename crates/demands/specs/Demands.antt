@@ -6,12 +6,12 @@ use mathlib.Core.Bool.{Bool, false, _&&_}
 use mathlib.Core.List.{List}
 use mathlib.Core.Logic.{_⊎_}
 use mathlib.Core.Option.{none, some}
-use Prim.Native.Nat.{ℕ, suc, _+_, _*_, _-_, _≤_, _<_}
-use lib.ListN.{take, drop}
+use Prim.Native.Nat.{ℕ, suc, _+_, _*_, _-_, _≤_, _<_, min}
+use lib.ListN.{length, take, drop}
 use Rattle.csl.specs.Text.{Text}
 use Rattle.csl.specs.Limits.{billion, widthFactor}
 use Rattle.csl.specs.Moves.{ratesOut}
-use Rattle.csl.specs.Formula.{Formula, chance, Path, until, nextMove, between, PathOf, twoPhases, Comparison}
+use Rattle.csl.specs.Formula.{Formula, chance, Path, until, nextMove, between, PathOf, twoPhases, Comparison, nodes}
 use Rattle.csl.specs.Fraction.{Below, billionths}
 use Rattle.csl.specs.Chain.{Chain, exitRate, topRate, depth}
 use Rattle.csl.specs.Phase.{bit}
@@ -27,7 +27,7 @@ use Rattle.csl.specs.Truth.{Obeys, Throughout, ThroughoutIn}
 use Rattle.csl.specs.Order.{isAbove, InOrder}
 use Rattle.csl.specs.Report.{Reported, backingOf, depthOf}
 use Rattle.csl.specs.Lent.{Buffers, lengths}
-use Rattle.csl.specs.Refusal.{Job, jobStates, jobMoves, jobChain, jobFormula, shortBuffer, refusal, accepted, outcome}
+use Rattle.csl.specs.Refusal.{Job, jobStates, jobMoves, jobChain, jobFormula, refusal, accepted, outcome}
 use Rattle.csl.specs.Finished.{Answer, refusedWith, acceptedWith, Finished}
 use Rattle.csl.specs.Laws.Lending.{ButForMarks}
 use Rattle.csl.specs.Theorems as theorems
@@ -71,12 +71,17 @@ pub finished-in-any-order : (a b : Text) → SameLines a b → (labels formula :
     → Finished (jobWith a labels formula) before x after → Finished (jobWith b labels formula) before x after
 finished-in-any-order a b h labels formula before x after k = same.finished-in-any-order a b h labels formula before x after k
 
--- "Ends, depths, verdicts and listings equal those of the larger buffer": buffers that differ in the marks alone, long enough in both or in neither, are
--- the same to all that is demanded but for the marks themselves (that `checker::check` leaves the same bytes is `same-but-for-marks` of
--- checker/specs/OtherMarks)
-pub finished-with-other-marks : (j : Job) (x y : Buffers (List ℕ)) → ButForMarks x y → shortBuffer j (lengths x) ≡ shortBuffer j (lengths y)
-    → (a : Answer) (left : Buffers (List ℕ)) → Finished j x a left → (other : Buffers (List ℕ)) × Finished j y a other × ButForMarks left other
-finished-with-other-marks j x y same h a left f = theorems.marks-change-nothing-else j x y same h a left f
+-- "mark bytes of 17 × n, or nodes × n where that is less, shall be enough. Ends, depths, verdicts and listings equal those of the larger buffer": an
+-- accepted job is accepted with other marks that have as many bytes, and what is finished over the one is finished over the other, with the same
+-- answer and the same in every other buffer (that `checker::check` leaves the same bytes is `same-but-for-marks` of checker/specs/OtherMarks)
+module _ (j : Job) (x y : Buffers (List ℕ)) (same : ButForMarks x y) (accepts : refusal j (lengths x) ≡ none)
+    (enough : min (17 * jobStates j) (nodes (jobFormula j) * jobStates j) ≤ length (y .marks)) where
+  pub accepted-with-other-marks : refusal j (lengths y) ≡ none
+  accepted-with-other-marks = proved.other-marks j x y same accepts enough .0
+
+  pub finished-with-other-marks : (a : Answer) (left : Buffers (List ℕ)) → Finished j x a left
+      → (other : Buffers (List ℕ)) × Finished j y a other × ButForMarks left other
+  finished-with-other-marks a left f = proved.other-marks j x y same accepts enough .1 a left f
 
 -- ".. rate, depth and labels exact": an accepted job is decided over the chain of its texts, at that chain's greatest exit rate. (That the
 -- code's q is this one is the field `q` of what `refusals::test_sheet` promises: `dimensionsOf` of refusals/specs/Sheet.)

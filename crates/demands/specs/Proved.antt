@@ -1,10 +1,10 @@
 -- What the demands say of the answer, from what a finished job is. Assumes nothing.
 use mathlib.Core.Path.{_≡_, refl, ap, sym, _∙_}
-use mathlib.Core.Bool.{Bool}
+use mathlib.Core.Bool.{Bool, false}
 use mathlib.Core.List.{List, _++_}
 use mathlib.Core.Logic.{_⊎_, inl, inr}
 use mathlib.Core.Option.{Option, none, some, Option·some-ne-none}
-use Prim.Native.Nat.{ℕ, _≤_}
+use Prim.Native.Nat.{ℕ, _*_, _≤_, min}
 use native.Mathlib.Omega.{arith}
 use lib.ListN.{length, take, drop}
 use lib.Seq.{take-at, drop-at}
@@ -18,15 +18,16 @@ use Rattle.csl.specs.Truth.{Obeys, Throughout}
 use Rattle.csl.specs.Order.{isAbove, worstFirst, InOrder}
 use Rattle.csl.specs.Report.{Reported, depthOf}
 use Rattle.csl.specs.Lent.{Buffers, lengths, written, filled}
-use Rattle.csl.specs.Refusal.{Job, jobSheet, jobStates, jobMoves, jobChain, jobFormula, refusal, textRefusal, textTests, firstOf, accepted, outcome, outcomeBy}
+use Rattle.csl.specs.Refusal.{Job, jobSheet, jobStates, jobMoves, jobChain, jobFormula, shortBuffer, refusal, textRefusal, textTests, firstOf, accepted, outcome, outcomeBy}
 use Rattle.csl.specs.Finished.{Answer, refusedWith, acceptedWith, Finished, FinishedBy}
 use Rattle.csl.specs.Theorems as theorems
 use Rattle.csl.specs.Laws.Order.{ordered-length}
+use Rattle.csl.specs.Laws.Lending.{ButForMarks, refusal-alike}
 use Rattle.accepted.specs.Order.{first-found}
 use Rattle.accepted.specs.Rates.{others}
 use Rattle.accepted.specs.Rates as rates
 use Rattle.accepted.specs.Sheet.{Sound}
-use Rattle.accepted.specs.Job.{refusal-number-some, refusal-number-most, passed}
+use Rattle.accepted.specs.Job.{refusal-number-some, refusal-number-most, passed, accepted-long}
 
 -- a report with its backing, in the buffers
 abbrev pub TheReport : Job → (before after : Buffers (List ℕ)) → (lower upper : ℕ → ℕ) → (ℕ → Verdict) → Type 0
@@ -93,6 +94,17 @@ module _ (j : Job) (before : Buffers (List ℕ)) (a : Answer) (after : Buffers (
       ⊎ ((lower : ℕ → ℕ) × (upper : ℕ → ℕ) × (v : ℕ → Verdict) × (a ≡ acceptedWith (depthOf (jobChain j) (jobFormula j)))
       × TheReport j before after lower upper v)
   one-answer f = answered (refusal j (lengths before)) refl (by f)
+
+-- other marks than an accepted job is lent, if there are enough
+pub other-marks : (j : Job) (x y : Buffers (List ℕ)) → ButForMarks x y → refusal j (lengths x) ≡ none
+    → min (17 * jobStates j) (nodes (jobFormula j) * jobStates j) ≤ length (y .marks) → (refusal j (lengths y) ≡ none)
+    × ((a : Answer) (left : Buffers (List ℕ)) → Finished j x a left → (other : Buffers (List ℕ)) × Finished j y a other × ButForMarks left other)
+unfolding shortBuffer
+other-marks j x y same h l =
+    let u : shortBuffer j (lengths x) ≡ false = accepted-long j (lengths x) h in
+    let w : shortBuffer j (lengths y) ≡ false
+    = theorems.marks-of-the-new-length-are-enough x y same (jobStates j) (length (jobMoves j)) (nodes (jobFormula j)) u l in
+    (refusal-alike j (lengths y) (lengths x) (w ∙ sym u) ∙ h, theorems.marks-change-nothing-else j x y same (u ∙ sym w))
 
 -- the order buffer after an accepted job
 module _ (j : Job) (before after : Buffers (List ℕ)) (lower upper : ℕ → ℕ) (v : ℕ → Verdict) (t : TheReport j before after lower upper v) where

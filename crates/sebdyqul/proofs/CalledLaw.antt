@@ -11,6 +11,7 @@ use Rattle.csl.specs.Finished.{Answer, refusedWith, acceptedWith, Finished, Fin
 use Rattle.verdicts.specs.Paper.{answerOf}
 use Rattle.verdicts.specs.declared.answer.Answer as code
 use Rattle.verdicts.specs.declared.answer.Answer.the-variants.{Accepted, Refused}
+use Rattle.checker.specs.Leaves.{leaves}
 use Rattle.sebdyqul.specs.Called.{answerFrom, Called}
 
 -- a number other than 0, where an answer is a refusal
@@ -31,11 +32,12 @@ same-answer : (k d : ℕ) → 0 < k → answerFrom k d ≡ refusedWith k
 same-answer zero d h = absurd (omega arith)
 same-answer (suc k) d h = refl
 
-module _ (j : Job) (before after : Buffers (List ℕ)) (x : code.Answer) (f : Finished j before (answerOf x) after) where
+module _ (j : Job) (before after : Buffers (List ℕ)) (x : code.Answer) (f : Finished j before (answerOf x) after)
+    (l : after ≡ leaves j before) where
   pub accepted-called : (old d : ℕ) → x ≡ Accepted d → Called j before old 0 d after
-  accepted-called old d e = record { finished = rw e at f; kept = λ h. absurd (omega arith) }
+  accepted-called old d e = record { finished = rw e at f; found = l; kept = λ h. absurd (omega arith) }
 
   pub refused-called : (old k : ℕ) → x ≡ Refused k → Called j before old k old after
   refused-called old k e =
       let g : Finished j before (refusedWith k) after = rw e at f in
-      record { finished = rw (same-answer k old (told j before after (refusedWith k) g)) g; kept = λ h. refl }
+      record { finished = rw (same-answer k old (told j before after (refusedWith k) g)) g; found = l; kept = λ h. refl }

@@ -7,8 +7,9 @@ ghost use Rattle.sebdyqul.specs.Called.{Called, CopyCalled};
 // Checks a job. An accepted job answers 0 and stores its depth; a refused one answers its number, and then neither the depth nor a buffer
 // has changed.
 //
-// Open, as in document 01, are the two ends of a `P` (numbers that keep the rules for ends), and the verdicts and later ends that follow
-// from them. All else is determined, for all texts and lengths: the answer, the depth, and every place of every lent buffer.
+// All is determined, for all texts and lengths: the answer, the depth, and every place of every lent buffer. Document 01 leaves open the two
+// ends of a `P` (numbers that keep the rules for ends), and the verdicts and later ends that follow from them; here they are those that
+// `checker::check` finds, by the chain and the formula alone.
 #[no_mangle]
 pub extern "C" fn sebdyqul_check(
     moves: &[u8],

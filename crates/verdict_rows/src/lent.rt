@@ -1,4 +1,4 @@
-// How many bytes the rows of a job take.
+// How many bytes are lent for the rows of a job.
 use limits::MOST_ROWS;
 ghost use mathlib.Core.Path.{_≡_};
 ghost use Prim.Native.Nat.{_≤_};

@@ -1,11 +1,11 @@
--- The bench values of the lent marks hold. Assumes nothing.
+-- The bench values of the smaller mark buffer hold. Assumes nothing.
 use mathlib.Core.Path.{refl}
-use Rattle.csl.specs.Bench.{LentMarks}
+use Rattle.csl.specs.Bench.{SmallerMarkBuffer}
 use Rattle.csl.specs.Laws.Computing.{computing}
 
-pub lent-marks : LentMarks
+pub smaller-mark-buffer : SmallerMarkBuffer
 unfolding computing
-lent-marks =
+smaller-mark-buffer =
     record {
       three-short = refl;
       three-long = refl;

@@ -42,7 +42,7 @@ same-length-7 : tie.Need-same-length-7
 same-length-7 c = search needs
 
 returns : tie.Need-returns
-returns c = accepted-called _ _ _ _ (checked c .check .ensures .0) _ _ (c .before .answer .given .1)
+returns c = accepted-called _ _ _ _ (checked c .check .ensures .0) (checked c .check .ensures .1 .0) _ _ (c .before .answer .given .1)
 
 same-length-8 : tie.Need-same-length-8
 same-length-8 c = search needs
@@ -66,7 +66,7 @@ same-length-14 : tie.Need-same-length-14
 same-length-14 c = search needs
 
 returns-2 : tie.Need-returns-2
-returns-2 c = refused-called _ _ _ _ (told c .check .ensures .0) _ _ (c .before .answer2 .given .1)
+returns-2 c = refused-called _ _ _ _ (told c .check .ensures .0) (told c .check .ensures .1 .0) _ _ (c .before .answer2 .given .1)
 
 pub sebdyqul-check-spec : {M : Type 1} → statement M
 sebdyqul-check-spec =

@@ -1,5 +1,5 @@
 -- `decide_all` meets its contract. Assumes nothing.
-use Rattle.checker.proofs.ReportLaw.{decide-laws, store-asked, small, some, few-nodes, end-fits, byte-fits, marks-counted, decide-asked, all-decided}
+use Rattle.checker.proofs.ReportLaw.{store-asked, words-counted, small, some, end-fits, byte-fits, marks-counted, decide-asked, all-decided}
 use mathlib.Core.Path.{refl}
 use borrow.Author.Needs.{needs}
 use Rattle.checker.proofs.passed.decide_all.Statement.{statement}
@@ -9,7 +9,7 @@ sub-root : tie.Need-sub-root
 sub-root c = search (needs, some)
 
 length-requires : tie.Need-length-requires
-length-requires c κs = search (needs, small, few-nodes)
+length-requires c κs = search (needs, small)
 
 all-pass-requires : tie.Need-all-pass-requires
 all-pass-requires c κs = search needs
@@ -21,7 +21,7 @@ clear-requires : tie.Need-clear-requires
 clear-requires c κs = search needs
 
 slice-aggregate-decide : tie.Need-slice-aggregate-decide
-slice-aggregate-decide c = search (needs, decide-laws)
+slice-aggregate-decide c = search (needs, words-counted)
 
 add-decide : tie.Need-add-decide
 add-decide c = search (needs, end-fits)

@@ -1,6 +1,5 @@
 -- `length` meets its contract. Assumes nothing.
 use Rattle.verdict_rows.proofs.LentLaw.{bytes-fit, row-for-each, most-rows}
-use native.Mathlib.Omega.{arith}
 use borrow.Author.Needs.{needs}
 use Rattle.verdict_rows.proofs.lent.length.Statement.{statement}
 use Rattle.verdict_rows.proofs.lent.length.Tie as tie
