@@ -17,6 +17,11 @@ LEANS = {
 }
 
 
+def leans(nodes, levels):
+    """The ways to nest so many nodes in so many levels: one alone where each operator has to have one operand."""
+    return LEANS if nodes > levels else ["drawn"]
+
+
 def levels_for(nodes):
     """Levels that so many nodes can have: as few as can be, those of operators of two operands in a row, and as many as can be."""
     return sorted({nodes.bit_length(), min(MOST_LEVELS, nodes // 2 + 1), min(MOST_LEVELS, nodes)})
@@ -50,7 +55,7 @@ def job(rng, nodes, levels, lean, states):
 
 def jobs(rng, states):
     """Jobs of few nodes and of many, for each way to nest them."""
-    return [job(rng, nodes, levels, lean, states) for nodes in COUNTS for levels in levels_for(nodes) for lean in LEANS]
+    return [job(rng, nodes, levels, lean, states) for nodes in COUNTS for levels in levels_for(nodes) for lean in leans(nodes, levels)]
 
 
 def many_nodes_job(rng):

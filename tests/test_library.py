@@ -343,8 +343,9 @@ class MarkBytes(LibraryTest):
         """On sheets of as many states as there may be too; their reports are not judged here."""
         rng = random.Random(46)
         for count in (16, 17, 18, MOST_NODES):
-            for lean in many_nodes.LEANS:
-                job = many_nodes.job(rng, count, many_nodes.levels_for(count)[-1], lean, MOST_STATES)
+            levels = many_nodes.levels_for(count)[-1]
+            for lean in many_nodes.leans(count, levels):
+                job = many_nodes.job(rng, count, levels, lean, MOST_STATES)
                 called = [self.library.check(job, ENOUGH._replace(marks=rows * MOST_STATES)) for rows in (min(17, count), count)]
                 self.assertEqual([library_faults(job, each, FEW_STATES) for each in called], [[], []])
                 self.assertEqual(*(printed(each, MOST_STATES) for each in called))
