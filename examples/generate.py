@@ -144,19 +144,29 @@ def after_workshop(formula):
     return Sheet(states, moves, labels, formula, told_parts, leaks + reseated)
 
 
-def redundant_string(formula):
-    """A logging string in which every part is there twice or three times."""
+def paired_parts():
+    """The parts that a logging string has twice, and the labels that hold where one of them is good."""
     parts = {
         "supplies": running(2, 80),
         "modems": in_reserve(2, 250),
         "coils": running(2, 400),
-        "detectors": restarted(3, 1_500, 200_000),
-        "processors": restarted(3, 500, 200_000),
     }
     labels = {
         "power": lambda s: s.supplies >= 1,
         "modem": lambda s: s.modems >= 1,
         "collar": lambda s: s.coils >= 1,
+    }
+    return parts, labels
+
+
+def redundant_string(formula):
+    """A logging string in which every part is there twice or three times."""
+    parts, labels = paired_parts()
+    parts |= {
+        "detectors": restarted(3, 1_500, 200_000),
+        "processors": restarted(3, 500, 200_000),
+    }
+    labels |= {
         "gamma": lambda s: s.detectors >= 2,
         "vote": lambda s: s.processors >= 2,
         "depth": lambda s: s.processors >= 2 and (s.coils >= 1 or s.detectors >= 2),
@@ -167,16 +177,9 @@ def redundant_string(formula):
 
 def fit_to_run(*rules):
     """A logging string in which every part is there twice, and rules that all have to hold before it is run."""
-    parts = {
-        "supplies": running(2, 80),
-        "modems": in_reserve(2, 250),
-        "coils": running(2, 400),
-        "detectors": restarted(2, 1_500, 200_000),
-    }
-    labels = {
-        "power": lambda s: s.supplies >= 1,
-        "modem": lambda s: s.modems >= 1,
-        "collar": lambda s: s.coils >= 1,
+    parts, labels = paired_parts()
+    parts |= {"detectors": restarted(2, 1_500, 200_000)}
+    labels |= {
         "gamma": lambda s: s.detectors >= 1,
         "sparepower": lambda s: s.supplies == 2,
         "sparemodem": lambda s: s.modems == 2,

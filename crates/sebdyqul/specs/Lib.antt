@@ -1,2 +1,3 @@
 -- What a caller in another language gets.
 pub mod Called
+pub mod OtherMarks
