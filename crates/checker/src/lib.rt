@@ -1,4 +1,7 @@
 // The checker: three texts and the lent buffers in, one finished report or one refusal number out.
+
+#![tactic(auto)]
+
 mod passed;
 
 ghost use Rattle.std.specs.Prelude.{◌≡◌};

@@ -1,4 +1,7 @@
 // The clean copy of a sheet's moves: the moves text that document 01 described, moves to the own state included, pairs rising and none twice.
+
+#![tactic(auto)]
+
 mod laying;
 mod rates;
 mod row;

@@ -1,4 +1,7 @@
 // What the programs share: texts from files, what is printed, and sentences on refusals.
+
+#![tactic(auto)]
+
 mod files;
 mod printing;
 

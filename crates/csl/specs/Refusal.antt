@@ -124,7 +124,9 @@ three_to_nine moves labels =
 -- the tests of a sheet's two texts, in their order
 unfoldable pub sheet_tests : (moves labels : Text) → List Test
 sheet_tests moves labels =
-    test 1 (out_of_bytes sheet_bytes moves || out_of_bytes sheet_bytes labels) ∷ test 2 (broken_layout moves labels) ∷ three_to_nine moves labels
+    test 1 (out_of_bytes sheet_bytes moves || out_of_bytes sheet_bytes labels) ∷ test 2 (broken_layout moves labels)
+    ∷ test 3 (wrong_first_line moves labels) ∷ test 4 (wrong_states labels) ∷ test 5 (many_moves (moves_of moves))
+    ∷ test 6 (strange_state (states_of labels) (moves_of moves)) ∷ test 9 (wrong_rate (moves_of moves)) ∷ []
 
 -- those of a formula, if its text spells one, over a sheet that passed and has these label names and this uniformisation rate
 unfoldable pub formula_tests : List Text → ℕ → Option Formula → List Test

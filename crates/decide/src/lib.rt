@@ -3,6 +3,9 @@
 // The report is left in lent memory. The marks begin with the node's row of n verdict bytes; the first 2 * n vector words are its ends, the
 // lower ones and then the upper ones; the answer is its depth. A node's operands are decided first, the one into the node's own row and the
 // other into the next, so that a formula takes at most as many rows as it has levels. The rows behind a node's own hold 0 before and after.
+
+#![tactic(auto)]
+
 mod chance;
 mod node;
 mod plain;

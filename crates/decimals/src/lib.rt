@@ -1,4 +1,7 @@
 // Bytes and decimal numbers at a place in a lent buffer, for whoever writes a text part by part.
+
+#![tactic(auto)]
+
 mod bytes;
 mod number;
 

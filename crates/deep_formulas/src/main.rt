@@ -1,4 +1,7 @@
 // The deepest formula texts, read and tested: a line `ok` for each that comes out as worked out by hand.
+
+#![tactic(auto)]
+
 use formula::Test;
 
 // A line for each thing that is tried.

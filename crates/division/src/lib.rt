@@ -1,4 +1,7 @@
 // A quotient that a plain division does not give: of a product that passes 64 bits.
+
+#![tactic(auto)]
+
 ghost use Rattle.std.specs.Prelude.{◌≡◌, ◌*◌, ◌/◌};
 ghost use Rattle.division.specs.Contract.{MulDiv};
 

@@ -1,4 +1,7 @@
 // From the formula text to the nodes of the formula, and the tests of its nodes.
+
+#![tactic(auto)]
+
 mod lay;
 mod nodes;
 mod operands;

@@ -53,9 +53,15 @@ pub fn read_amount(w: &[u8]) -> Amount
     ensures result_value { amount_meant result ≡ number_of w.now }
     ensures within { AmountFits result }
 {
-    match texts::whole_number(w, FORMULA_DIGITS) {
+    match texts::number(w, FORMULA_DIGITS) {
         Num::Bad => Amount::Missing,
-        Num::Value(value, _) => Amount::Is(value),
+        Num::Value(v, n) => {
+            if n == w.len() {
+                Amount::Is(v)
+            } else {
+                Amount::Missing
+            }
+        }
     }
 }
 

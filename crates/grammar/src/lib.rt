@@ -1,5 +1,8 @@
 // The tokens of a formula: what the first of a state formula says, what a `P` is followed by, and what a path formula begins with. Besides,
 // laws on the grammar.
+
+#![tactic(auto)]
+
 mod chance;
 mod head;
 mod hours;

@@ -1,4 +1,7 @@
 // The row of a `P` whose ends stand in the words: by the moves where they decide it, else by the ends.
+
+#![tactic(auto)]
+
 ghost use Rattle.std.specs.Prelude.{◌≡◌, ◌≤◌, length};
 ghost use Rattle.verdicts.specs.Paper.{comparison_of};
 ghost use Rattle.judgement.specs.Judged.{moves_decide, AskAsked, AskLeaves, JudgeAsked, JudgeLeaves, NextJudgeAsked, NextJudged};

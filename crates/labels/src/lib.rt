@@ -1,4 +1,7 @@
 // The labels text: the names of its first line, what its lines say, for the refusals, and its marks as words.
+
+#![tactic(auto)]
+
 mod facts;
 mod lines;
 mod names;

@@ -1,5 +1,8 @@
 // The limits, units and sizes of documents 01 and 02 as constants of the code. `all` holds all of them, and its promise says that each is the
 // number that crates/csl has under the same name.
+
+#![tactic(auto)]
+
 ghost use Rattle.limits.specs.Tied.{Tied};
 
 // Ends and thresholds count billionths.

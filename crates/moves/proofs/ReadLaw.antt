@@ -6,7 +6,7 @@ use mathlib.Core.Bool.{Bool, true, false, cond, ◌&&◌, and-eq-true_iff}
 use mathlib.Core.List.{List, [], ◌∷◌, map}
 use lib.ListN.{length, take, drop, length-drop}
 use Rattle.csl.specs.Text.{Text}
-use Rattle.csl.specs.Limits.{billion}
+use Rattle.csl.specs.Limits.{billion, sheet_bytes}
 use Rattle.csl.specs.Line.{line_feed, lines_of}
 use Rattle.csl.specs.Moves as csl
 use Rattle.texts.specs.Span.{span_of}
@@ -95,7 +95,7 @@ module _ {n : ℕ} {s t : Text} {a : Tally} {totals owns : List ℕ} (v : Tallyi
     unfolding lines_facts
     tally_broken head h = rw (sym v.passes ∙ pass_not csl.move_line t l (untold t (sym g ∙ h)))
 
-    pub tally_room : length s ≤ 18446744073709551615 → a.count < 18446744073709551615
+    pub tally_room : length s ≤ sheet_bytes → a.count < sheet_bytes
     tally_room m = omega (arith, v.within)
 
     module _ {f o x u : ℕ} (h : r ≡ Move f o x u) (fits : LineFits (length t) r) where

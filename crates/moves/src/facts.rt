@@ -1,5 +1,6 @@
 // The facts of a moves text that the refusals ask for.
-ghost use Rattle.std.specs.Prelude.{◌≡◌, List, []};
+ghost use Rattle.std.specs.Prelude.{◌≡◌, ◌≤◌, List, [], length};
+ghost use Rattle.csl.specs.Limits.{sheet_bytes};
 ghost use Rattle.csl.specs.Moves as csl;
 ghost use Rattle.moves.specs.Totals.{Carried};
 ghost use Rattle.moves.specs.Tally.{Tallied};
@@ -70,6 +71,7 @@ fn facts_of(
 
 // The facts of a moves text from its lines after the first, which s has, and whether the first is right.
 fn tally_lines(head: bool, s: &[u8], states: usize) -> MovesFacts
+    requires { length s.now ≤ sheet_bytes }
     ensures { result ≡ lines_facts states head s.now }
 {
     let mut totals = [0u32; MOST_STATES];
@@ -98,6 +100,7 @@ fn tally_lines(head: bool, s: &[u8], states: usize) -> MovesFacts
 
 // The facts of a moves text. The empty text has no line that could be wrong.
 pub fn read(s: &[u8], states: usize) -> MovesFacts
+    requires { length s.now ≤ sheet_bytes }
     ensures { result ≡ moves_facts states s.now }
 {
     if s.len() == 0 {

@@ -1,4 +1,7 @@
 // The moves text: what its lines say, for the refusals; and its moves as words.
+
+#![tactic(auto)]
+
 mod facts;
 mod lines;
 mod tally;

@@ -1,5 +1,6 @@
 // What move lines say, line by line, but for the totals of their rates.
 ghost use Rattle.std.specs.Prelude.{◌≡◌, ◌<◌};
+ghost use Rattle.csl.specs.Limits.{sheet_bytes};
 ghost use Rattle.moves.specs.Tally.{begun, added};
 
 // What the lines so far say: how many; a state past the last; a rate of 0.
@@ -24,7 +25,7 @@ impl Tally {
 
     // One line more. Most lines have nothing to tell but their rate, and are done with first.
     pub fn add(self, states: u64, from: u64, to: u64, rate: u64) -> Tally
-        requires { self.count < 18446744073709551615 }
+        requires { self.count < sheet_bytes }
         ensures { result ≡ added states self from to rate }
     {
         let count = self.count + 1;

@@ -2,6 +2,9 @@
 // the states of the second operand, and comes to each state and each move at most once.
 //
 // Each state has two bytes. The first is 1 where the first operand holds and the state is not reached yet, the second is 1 where it is reached.
+
+#![tactic(auto)]
+
 mod begin;
 mod spread;
 

@@ -1,4 +1,7 @@
 // Document 01's refusals: the tests of a sheet's two texts, of a formula over a sheet, and of the lengths of the lent buffers.
+
+#![tactic(auto)]
+
 mod formula_tests;
 mod lengths;
 mod sheet_tests;

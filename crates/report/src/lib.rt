@@ -1,4 +1,7 @@
 // The text that a program prints for the answer to a job.
+
+#![tactic(auto)]
+
 mod complete;
 mod listings;
 mod order;

@@ -1,4 +1,7 @@
 // The report of a decided formula in the caller's result buffers.
+
+#![tactic(auto)]
+
 ghost use Rattle.std.specs.Prelude.{◌≡◌, ◌+◌, ◌≤◌, length, get_or};
 ghost use Rattle.csl.specs.Lent.{column, written};
 ghost use Rattle.verdict_rows.specs.Row.{EndsIn};

@@ -1,4 +1,7 @@
 // The checker for programs in C, Rust and other languages: what `library/sebdyqul.h` declares.
+
+#![tactic(auto)]
+
 ghost use Rattle.checker.specs.Job.{job, buffers};
 ghost use Rattle.sebdyqul.specs.Called.{Called, CopyCalled};
 

@@ -2,6 +2,9 @@
 // state without their rates; behind these stand, where it is wanted, their index by the state that they enter, and otherwise the moves as they came.
 // In the vector words stand the marks of its labels and what is prepared of its moves, the rates to the own state and the ends of the index's rows
 // among it.
+
+#![tactic(auto)]
+
 ghost use Rattle.labels.specs.Words.{state_word};
 ghost use Rattle.numbers.specs.Filled.{Filled};
 ghost use Rattle.incoming_moves.specs.Indexed.{IndexAsked};

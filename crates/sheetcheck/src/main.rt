@@ -1,4 +1,7 @@
 // Prints the report on the sheet whose three texts are in the folder that it is run in, or the number that it is refused with.
+
+#![tactic(auto)]
+
 mod answer;
 
 use answer::{TEXT_BYTES, write_answer};

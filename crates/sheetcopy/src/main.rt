@@ -1,4 +1,7 @@
 // Prints the clean copy of the moves whose two texts are in the folder that it is run in, or the number that they are refused with.
+
+#![tactic(auto)]
+
 mod answer;
 
 use answer::write_copy;

@@ -1,6 +1,5 @@
 -- Laws behind the proofs of `texts`.
 pub mod NumberLaw
-pub mod WholeLaw
 pub mod ScanLaw
 pub mod CutLaw
 pub mod FieldLaw

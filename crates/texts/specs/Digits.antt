@@ -14,10 +14,6 @@ digit_run (b ∷ t) = cond (is_digit b) (b ∷ digit_run t) []
 unfoldable pub number_at : ℕ → Text → Num
 number_at most t = cond (is_number most (digit_run t)) (Value (value_of (digit_run t)) (length (digit_run t))) Bad
 
--- the number that all of it spells
-unfoldable pub whole_number : ℕ → Text → Num
-whole_number most w = cond (is_number most w) (Value (value_of w) (length w)) Bad
-
 -- the number of value v that the n digits at the start of s spell, where it is one
 abbrev pub settled : Text → ℕ → ℕ → Num
 settled s v n = cond (leb 1 n && not (ltb 1 n && eqb (get_or s 0 0) 48)) (Value v n) Bad

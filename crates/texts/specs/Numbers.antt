@@ -1,14 +1,15 @@
 -- The numbers of the line at the start of a text, field by field. Assumes nothing.
-use Rattle.std.specs.Prelude.{◌≡◌, refl, ℕ, suc, ◌+◌, ◌≤◌, ◌<◌, Bool, true, false, cond, ◌&&◌, List, [], ◌∷◌, ◌++◌, length, drop, get_or, eqb, leb}
-use Rattle.std.proofs.Common.{sym, ap, ◌∙◌, arith, append-nil, drop-drop, leb-false, eqb-true}
-use Rattle.std.proofs.Math.Bool.{and-false, and-true}
+use Rattle.std.specs.Prelude.{◌≡◌, refl, ℕ, suc, ◌+◌, ◌*◌, ◌-◌, ◌^◌, ◌≤◌, ◌<◌, Bool, true, false, cond, not, ◌&&◌, List, [], ◌∷◌, ◌++◌, length, drop, get_or, eqb, leb}
+use Rattle.std.proofs.Common.{sym, ap, ◌∙◌, arith, pow-suc, mul-le-mul_right, append-nil, drop-drop, leb-true, leb-false, eqb-true}
+use Rattle.std.proofs.Math.Nat.{pow-le-pow_right}
+use Rattle.std.proofs.Math.Bool.{and-false, and-true, and-eq-true_iff}
 use Rattle.std.proofs.lemmas.Bool.{false≢true}
 use Rattle.csl.specs.Text.{Text, every}
 use Rattle.csl.specs.Limits.{sheet_digits}
-use Rattle.csl.specs.Number.{is_digit, is_number, value_of}
+use Rattle.csl.specs.Number.{is_digit, is_number, zero_led, value_from, value_of}
 use Rattle.csl.specs.Line.{line_feed, comma, ahead}
-use Rattle.csl.specs.Laws.Decimal.{digit_range, number_facts, number_below}
 use Rattle.texts.specs.Digits.{digit_run, number_at}
+use Rattle.texts.specs.Counting.{digit_range}
 use Rattle.texts.specs.Span.{span_of}
 use Rattle.texts.specs.declared.digits.Num.{Num}
 use Rattle.texts.specs.declared.digits.Num.TheVariants.{Value, Bad}
@@ -178,13 +179,36 @@ module _ (t : Text) (v u : ℕ) where
       let e : span_of line_feed (behind t) ≡ 0 = rw (behind_is line_feed t v u r) (span_feed (drop u t)) in
       omega (arith, run_span t, r.used)
 
+-- a number of n digits is below 10 ^ n
+value_below : (v : ℕ) (d : Text) → every is_digit d ≡ true → value_from v d < (v + 1) * 10 ^ length d
+unfolding every value_from
+value_below v [] h = omega arith
+value_below v (b ∷ d) h =
+    let p = (and-eq-true_iff (is_digit b) (every is_digit d)).0 h in
+    let r = digit_range b p.0 in
+    let q : v * 10 + (b - 48) + 1 ≤ (v + 1) * 10 = omega arith in
+    rw (pow-suc 10 (length d)) (omega (arith, value_below (v * 10 + (b - 48)) d p.1, mul-le-mul_right (10 ^ length d) q))
+
+number_facts : (most : ℕ) (d : Text) → is_number most d ≡ true → (every is_digit d ≡ true) × (length d ≤ most)
+unfolding is_number
+number_facts most d h =
+    let p = (and-eq-true_iff (every is_digit d && leb 1 (length d) && leb (length d) most) (not (zero_led d))).0 h in
+    let q = (and-eq-true_iff (every is_digit d && leb 1 (length d)) (leb (length d) most)).0 p.0 in
+    let r = (and-eq-true_iff (every is_digit d) (leb 1 (length d))).0 q.0 in
+    (r.0, leb-true (length d) most q.1)
+
+number_below : (d : Text) → is_number sheet_digits d ≡ true → value_of d < 1000000000
+number_below d h =
+    let f = number_facts sheet_digits d h in
+    omega (arith, value_below 0 d f.0, pow-le-pow_right {n = 10} (omega arith) f.1)
+
 pub reading_below : (t : Text) (v n : ℕ) → number_at sheet_digits t ≡ Value v n → v < 1000000000
 unfolding number_at
 reading_below t v n h = go (is_number sheet_digits (digit_run t)) refl h
   where
     go : (x : Bool) → is_number sheet_digits (digit_run t) ≡ x → cond x (Value (value_of (digit_run t)) (length (digit_run t))) Bad ≡ Value v n
         → v < 1000000000
-    go true e q = let w : value_of (digit_run t) ≡ v = cc in omega (arith, number_below sheet_digits (digit_run t) e)
+    go true e q = let w : value_of (digit_run t) ≡ v = cc in omega (arith, number_below (digit_run t) e)
     go false e q = let z : ◌≡◌ {A = ℕ} 0 1 = cc in absurd (omega arith)
 
 -- a field that passes is read, and what stands behind it passes

@@ -2,7 +2,7 @@
 ghost use Rattle.std.specs.Prelude.{◌≡◌, ◌≤◌, min, length, get_or};
 ghost use Rattle.csl.specs.Limits.{formula_digits};
 ghost use Rattle.csl.specs.Number.{is_digit};
-ghost use Rattle.texts.specs.Digits.{number_at, settled, whole_number, NumberFits};
+ghost use Rattle.texts.specs.Digits.{number_at, settled, NumberFits};
 
 // The number that was read, and how many bytes it takes.
 #[derive(Drop)]
@@ -75,22 +75,4 @@ pub fn number(s: &[u8], most: usize) -> Num
         return Num::Bad;
     }
     settle(s, value, used)
-}
-
-// The number that the whole of w spells, of at most `most` digits.
-pub fn whole_number(w: &[u8], most: usize) -> Num
-    requires { most ≤ formula_digits }
-    ensures value { result ≡ whole_number most w.now }
-    ensures within { NumberFits (length w.now) result }
-{
-    match number(w, most) {
-        Num::Bad => Num::Bad,
-        Num::Value(value, used) => {
-            if used == w.len() {
-                Num::Value(value, used)
-            } else {
-                Num::Bad
-            }
-        }
-    }
 }

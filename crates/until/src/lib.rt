@@ -1,5 +1,8 @@
 // The two ends of an until at every state, and those of the phase before one that begins later, in their places among the lent vector words;
 // all other words are left as they were.
+
+#![tactic(auto)]
+
 mod ends;
 mod reading;
 

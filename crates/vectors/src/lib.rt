@@ -3,6 +3,9 @@
 // With n states the words are columns of n: the lower ends and the upper ones, the values, the values one step on, the sums, what stays put,
 // the exit rates, the row ends, the rates to the own state; then the weights, with the total of the weights and the number of the step behind
 // them, and the labels' marks last. specs/Places.antt has each place by name; a column's constant times n is where it begins.
+
+#![tactic(auto)]
+
 ghost use Rattle.std.specs.Prelude.{◌≡◌, ◌≤◌, length};
 ghost use Rattle.csl.specs.Limits.{most_states};
 ghost use Rattle.vectors.specs.Places.{Placed, total_at, number_at, marks_from, vector_length};

@@ -1,5 +1,8 @@
 // Rows of verdict bytes in a lent buffer: a row is n bytes, one for each state, and a slice that is handed to a function begins with the row
 // that is filled.
+
+#![tactic(auto)]
+
 mod byte;
 mod lent;
 mod row;

@@ -1,4 +1,7 @@
 // Verdicts, and what they come from and go into: comparisons, intervals in billionths, and the answer to a job.
+
+#![tactic(auto)]
+
 mod answer;
 mod comparison;
 mod interval;

@@ -1,4 +1,7 @@
 // The weights of the steps, rounded down, from the largest one both ways; what a step adds to a sum; a sum over all weights.
+
+#![tactic(auto)]
+
 ghost use Rattle.std.specs.Prelude.{◌≡◌, ◌+◌, ◌*◌, ◌-◌, ◌/◌};
 ghost use Rattle.csl.specs.Chain.{sum_to};
 ghost use Rattle.numbers.specs.Filled.{Filled};

@@ -1,4 +1,7 @@
 // Zeros in lent words.
+
+#![tactic(auto)]
+
 ghost use Rattle.std.specs.Prelude.{◌≡◌, ◌+◌, ◌≤◌, length, replicate};
 ghost use Rattle.csl.specs.Lent.{written};
 ghost use Rattle.numbers.specs.Filled.{Filled};
