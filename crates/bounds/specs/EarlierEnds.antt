@@ -11,10 +11,10 @@ use Rattle.csl.specs.Chain.{Chain, top_rate, depth}
 use Rattle.csl.specs.Phase.{bit}
 use Rattle.csl.specs.Verdicts.{Verdict, No, Yes, Undecided, as_no, as_yes, least, most}
 use Rattle.csl.specs.Ends.{EndsAt}
-use Rattle.csl.specs.Laws.PointEnds.{still_lower_lem, still_upper_lem}
-use Rattle.csl.specs.Laws.BetweenEnds.{between_impossible, between_still_ends}
-use Rattle.csl.specs.Laws.Decided.{all_decided, all_decided_lem}
-use Rattle.csl.specs.Laws.Sum.{greatest_le}
+use Rattle.csl.proofs.Laws.PointEnds.{still_lower_lem, still_upper_lem}
+use Rattle.csl.proofs.Laws.BetweenEnds.{between_impossible, between_still_ends}
+use Rattle.csl.proofs.Laws.Decided.{all_decided, all_decided_lem}
+use Rattle.csl.proofs.Laws.Sum.{greatest_le}
 use Rattle.bounds.specs.Width.{most_depth}
 use Rattle.bounds.specs.StepValues.{StartedRounds, pointed, most_gap, gap_of, earlier_lower_of, earlier_upper_of, earlier_gap}
 use Rattle.bounds.specs.Reading.{summed_lower, summed_upper}

@@ -4,7 +4,7 @@ use Rattle.std.proofs.Common.{arith, sub-add_cancel}
 use Rattle.numbers.specs.Hint.{le_times, eq_times}
 use Rattle.csl.specs.Chain.{Chain, sum_to, away, exit_rate, top_rate}
 use Rattle.csl.specs.Phase.{moved}
-use Rattle.csl.specs.Laws.Steps.{exit_le}
+use Rattle.csl.proofs.Laws.Steps.{exit_le}
 
 -- first the sum over the other states
 row_shift : (a x y : ℕ → ℕ) (p r e n : ℕ) → ((k : ℕ) → k < n → p * x k ≤ r * y k + e)

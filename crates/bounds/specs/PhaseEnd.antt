@@ -8,8 +8,8 @@ use Rattle.csl.specs.Limits.{spare_steps}
 use Rattle.csl.specs.Fraction.{Fraction, frac, Below, billionths, round_up}
 use Rattle.csl.specs.Chain.{Chain, top_rate}
 use Rattle.csl.specs.Phase.{Phase, divisor, step_top, step_value, quotient}
-use Rattle.csl.specs.Laws.Steps.{Starts, step_le}
-use Rattle.csl.specs.Laws.Left.{left_of, left_above}
+use Rattle.csl.proofs.Laws.Steps.{Starts, step_le}
+use Rattle.csl.proofs.Laws.Left.{left_of, left_above}
 use Rattle.bounds.specs.Weight.{Middle}
 use Rattle.bounds.specs.Exact.{power}
 use Rattle.bounds.specs.Unit.{unit, one}

@@ -11,8 +11,8 @@ use Rattle.csl.specs.Verdicts.{Verdict, No, Yes, least, most}
 use Rattle.csl.specs.Until.{until_phase}
 use Rattle.csl.specs.Path.{AllDecided}
 use Rattle.csl.specs.Ends.{EndsAt}
-use Rattle.csl.specs.Laws.Verdicts.{decided_same}
-use Rattle.csl.specs.Laws.Quotient.{until_starts}
+use Rattle.csl.proofs.Laws.Verdicts.{decided_same}
+use Rattle.csl.proofs.Laws.Quotient.{until_starts}
 use Rattle.bounds.specs.Ends.{lower_end, end_most}
 use Rattle.bounds.specs.Upper.{upper_end, left_same}
 use Rattle.bounds.specs.Width.{most_depth}

@@ -8,7 +8,7 @@ use Rattle.csl.specs.Verdicts.{Verdict, No, Yes, least, most}
 use Rattle.csl.specs.Until.{until_quotient, until_slack}
 use Rattle.csl.specs.Path.{AllDecided}
 use Rattle.csl.specs.Ends.{EndsAt}
-use Rattle.csl.specs.Laws.Fraction.{wider, more_room}
+use Rattle.csl.proofs.Laws.Fraction.{wider, more_room}
 
 -- from D on the quotients lie from `low` to `high` billionths, and these are at most 4 × D apart
 pub record Bounds (c : Chain) (t : ℕ) (x y : ℕ → Bool) (s low high : ℕ) : Type 0 where

@@ -15,12 +15,12 @@ use Rattle.csl.specs.Until.{until_slack}
 use Rattle.csl.specs.Between.{later_quotient, earlier_phase, between_quotient, between_slack}
 use Rattle.csl.specs.Ends.{EndsAt}
 use Rattle.csl.specs.Path.{AllDecided}
-use Rattle.csl.specs.Laws.Fraction.{below_trans}
-use Rattle.csl.specs.Laws.Steps.{divisor_some}
-use Rattle.csl.specs.Laws.Verdicts.{decided_same}
-use Rattle.csl.specs.Laws.Quotient.{quotient_is, until_is}
-use Rattle.csl.specs.Laws.Between.{until_bottoms}
-use Rattle.csl.specs.Laws.Enclosure.{ordered_ends}
+use Rattle.csl.proofs.Laws.Fraction.{below_trans}
+use Rattle.csl.proofs.Laws.Steps.{divisor_some}
+use Rattle.csl.proofs.Laws.Verdicts.{decided_same}
+use Rattle.csl.proofs.Laws.Quotient.{quotient_is, until_is}
+use Rattle.csl.proofs.Laws.Between.{until_bottoms}
+use Rattle.csl.proofs.Laws.Enclosure.{ordered_ends}
 use Rattle.bounds.specs.Unit.{unit}
 use Rattle.bounds.specs.Ends.{end_most}
 use Rattle.bounds.specs.Upper.{upper_end}

@@ -10,9 +10,9 @@ use Rattle.csl.specs.Phase.{bit}
 use Rattle.csl.specs.Verdicts.{Verdict, No, Yes, Undecided, as_no, as_yes, least, most}
 use Rattle.csl.specs.Until.{until_phase, low_quotient, high_quotient}
 use Rattle.csl.specs.Ends.{EndsAt}
-use Rattle.csl.specs.Laws.Verdicts.{decided_same}
-use Rattle.csl.specs.Laws.PointQuotients.{until_still}
-use Rattle.csl.specs.Laws.PointEnds.{ends_certain, ends_impossible}
+use Rattle.csl.proofs.Laws.Verdicts.{decided_same}
+use Rattle.csl.proofs.Laws.PointQuotients.{until_still}
+use Rattle.csl.proofs.Laws.PointEnds.{ends_certain, ends_impossible}
 use Rattle.bounds.specs.Width.{most_depth}
 use Rattle.bounds.specs.StepValues.{Rounds, pointed, until_lower_of, until_upper_of}
 use Rattle.bounds.specs.Reading.{summed_lower, summed_upper, summed_ends}

@@ -12,8 +12,8 @@ use Rattle.csl.specs.Fraction.{frac, round_up}
 use Rattle.csl.specs.Chain.{Chain, top_rate}
 use Rattle.csl.specs.Verdicts.{Verdict, least, most}
 use Rattle.csl.specs.Until.{until_phase}
-use Rattle.csl.specs.Theorems.{whole_hours_have_their_depth}
-use Rattle.csl.specs.Laws.WholeHours.{in_hundredths}
+use Rattle.csl.proofs.Theorems.{whole_hours_have_their_depth}
+use Rattle.csl.proofs.Laws.WholeHours.{in_hundredths}
 use Rattle.bounds.specs.Ladder.{ladder}
 use Rattle.bounds.specs.Weight.{peak, low, apart}
 use Rattle.bounds.specs.Unit.{one, part}

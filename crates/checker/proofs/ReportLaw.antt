@@ -19,7 +19,7 @@ use Rattle.csl.specs.Formula.{nodes}
 use Rattle.csl.specs.Chain.{top_rate}
 use Rattle.csl.specs.Order.{worst_first}
 use Rattle.csl.specs.Lent.{Buffers, column, written}
-use Rattle.csl.specs.Laws.Order.{order_same}
+use Rattle.csl.proofs.Laws.Order.{order_same}
 use Rattle.numbers.specs.Filled.{at, Table, table_at, table_rest, zeros_written, zeros_at}
 use Rattle.numbers.specs.Part.{front_length, front_at, front_beyond}
 use Rattle.bounds.specs.Found.{report_lower, report_upper}

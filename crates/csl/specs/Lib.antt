@@ -31,5 +31,3 @@ pub mod Finished
 pub mod Copy
 pub mod Import
 pub mod Bench
-pub mod Theorems
-pub mod Laws

@@ -7,9 +7,9 @@ use native.Mathlib.Omega.{arith}
 use Rattle.csl.specs.Formula.{Comparison}
 use Rattle.csl.specs.Verdicts.{Verdict}
 use Rattle.csl.specs.Next.{next_lower, next_upper}
-use Rattle.csl.specs.Laws.NextEnds.{ends_next}
+use Rattle.csl.proofs.Laws.NextEnds.{ends_next}
 use Rattle.numbers.specs.Filled.{at, filled_as}
-use Rattle.csl.specs.Laws.Decided.{all_decided_same}
+use Rattle.csl.proofs.Laws.Decided.{all_decided_same}
 use Rattle.verdicts.specs.Byte.{verdict_at, verdicts}
 use Rattle.vectors.specs.Places.{EndsStored}
 use Rattle.next_move.specs.Ends as next

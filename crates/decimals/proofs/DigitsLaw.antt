@@ -7,7 +7,7 @@ use Rattle.csl.specs.Line.{comma}
 use Rattle.csl.specs.Report.{decimal}
 use Rattle.decimals.specs.Place.{Room, Wrote}
 use Rattle.decimals.specs.Writing.{wrote_more}
-use Rattle.csl.specs.Laws.Decimal.{digits_one, digits_more, length_more}
+use Rattle.csl.proofs.Laws.Decimal.{digits_one, digits_more, length_more}
 
 pub one_digit : {at x r : ℕ} (n : ℕ) {old new : List ℕ} → n < 10 → x ≡ 48 + n % 10 → Wrote at (x ∷ []) old new r → Wrote at (decimal n) old new r
 one_digit n h e w = rw (digits_one n h, ← e) w

@@ -17,9 +17,9 @@ use Rattle.csl.specs.Report.{Reported, depth_of}
 use Rattle.csl.specs.Lent.{Buffers, lengths, written, filled}
 use Rattle.csl.specs.Refusal.{Job, job_sheet, job_states, job_moves, job_chain, job_formula, short_buffer, refusal, text_refusal, text_tests, first_of, accepted, outcome, outcome_by}
 use Rattle.csl.specs.Finished.{Answer, refused_with, accepted_with, Finished, FinishedBy}
-use Rattle.csl.specs.Theorems as theorems
-use Rattle.csl.specs.Laws.Order.{ordered_length}
-use Rattle.csl.specs.Laws.Lending.{ButForMarks, refusal_alike}
+use Rattle.csl.proofs.Theorems as theorems
+use Rattle.csl.proofs.Laws.Order.{ordered_length}
+use Rattle.csl.proofs.Laws.Lending.{ButForMarks, refusal_alike}
 use Rattle.accepted.specs.Order.{first_found}
 use Rattle.accepted.specs.Rates.{others}
 use Rattle.accepted.specs.Rates as rates

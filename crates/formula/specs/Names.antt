@@ -5,7 +5,7 @@ use Rattle.std.proofs.lemmas.Bool.{false≢true}
 use Rattle.std.proofs.Math.Dec.{leb-suc-suc}
 use Rattle.csl.specs.Text.{Text, same, among}
 use Rattle.csl.specs.Labels.{place_of}
-use Rattle.csl.specs.Laws.Grammar.{same_true}
+use Rattle.csl.proofs.Laws.Grammar.{same_true}
 
 -- among names, by the place
 pub among_place : (names : List Text) (w : Text) → ltb (place_of names w) (length names) ≡ among names w

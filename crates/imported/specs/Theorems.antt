@@ -17,7 +17,7 @@ use Rattle.csl.specs.Moves.{Move, moves_of, moves_layout}
 use Rattle.csl.specs.Refusal.{out_of_bytes, broken_layout, strange_state, three_to_nine, sheet_tests, first_of}
 use Rattle.csl.specs.Copy.{moves_text, lines_text}
 use Rattle.csl.specs.Import.{Files, words_of, numbers_line, transitions_layout, states_counted, transitions_counted, transitions_of, quoted_names, label_lines, label_file_layout, holds_at, ended_text, fields_text, labels_text, imported_moves, imported_labels, miscounts, file_tests, result_tests, import_refusal}
-use Rattle.csl.specs.Laws.Decimal.{number_below}
+use Rattle.csl.proofs.Laws.Decimal.{number_below}
 use Rattle.accepted.specs.Order.{neither, NoneHolds, first_none, none_first, first_after, none_left, none_right}
 use Rattle.same_chain.specs.MovesText.{moves_read}
 use Rattle.imported.specs.Moves.{imported_layout}

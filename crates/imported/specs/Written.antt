@@ -11,7 +11,7 @@ use Rattle.csl.specs.Text.{Text, every}
 use Rattle.csl.specs.Line.{line_feed, comma, ahead, parts, ended_parts, no_remnant, lines_of, is_ended, later_lines, fields_of}
 use Rattle.csl.specs.Order.{by_number}
 use Rattle.csl.specs.Import.{ended_text, fields_text}
-use Rattle.csl.specs.Laws.Listing.{by_number_length}
+use Rattle.csl.proofs.Laws.Listing.{by_number_length}
 use Rattle.same_chain.specs.Digits.{every_append}
 use Rattle.same_chain.specs.Joined.{free, parts_some, before_mark, without_mark}
 

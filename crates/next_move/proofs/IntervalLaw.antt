@@ -7,7 +7,7 @@ use mir.Val.{Fits}
 use mir.Syntax.{w32}
 use Rattle.csl.specs.Limits.{billion}
 use Rattle.csl.specs.Next.{divided_by}
-use Rattle.csl.specs.Laws.Next.{divided_is, divided_le, round_down_lem, round_up_lem, down_range, up_range}
+use Rattle.csl.proofs.Laws.Next.{divided_is, divided_le, round_down_lem, round_up_lem, down_range, up_range}
 use Rattle.verdicts.specs.Paper.{interval}
 use Rattle.verdicts.specs.declared.interval.Interval.{Interval}
 use Rattle.next_move.specs.Ends.{down_of, up_of}

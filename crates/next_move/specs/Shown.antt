@@ -7,7 +7,7 @@ use Rattle.csl.specs.Chain.{Chain, sum_to, away}
 use Rattle.csl.specs.Phase.{bit}
 use Rattle.csl.specs.Verdicts.{Verdict}
 use Rattle.csl.specs.Next.{next_exit_rate, entering_rate, next_fraction, next_lower, next_upper}
-use Rattle.csl.specs.Laws.OwnState.{exit_own, entering_own}
+use Rattle.csl.proofs.Laws.OwnState.{exit_own, entering_own}
 use Rattle.verdicts.specs.Byte.{verdicts, read_as}
 use Rattle.rate_matrix.specs.Words.{flow}
 use Rattle.rate_matrix.specs.Shown.{Shows, exit_shown, flow_shown}

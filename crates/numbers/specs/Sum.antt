@@ -4,7 +4,7 @@ use Rattle.std.proofs.Common.{arith, add-one, le_refl, ⊎_elim}
 use Rattle.std.proofs.Math.Nat.{le-suc_iff}
 use Rattle.csl.specs.Chain.{sum_to, greatest}
 use Rattle.numbers.specs.Hint.{le_times}
-pub use Rattle.csl.specs.Laws.Sum.{sum_cong, sum_le, sum_none, sum_less, sum_term, sum_weighted, greatest_cong, greatest_le}
+pub use Rattle.csl.proofs.Laws.Sum.{sum_cong, sum_le, sum_none, sum_less, sum_term, sum_weighted, greatest_cong, greatest_le}
 
 -- by the code's names
 pub sum_zero : (f : ℕ → ℕ) → sum_to f 0 ≡ 0

@@ -11,7 +11,7 @@ use mir.Syntax.{w64}
 use borrow.Author.Tests.{eqb-true, eq-eqb, ltb-true, ltb-false}
 use Rattle.csl.specs.Chain.{Chain, sum_to}
 use Rattle.csl.specs.Graph.{Leads, Tells}
-use Rattle.csl.specs.Laws.Search.{search_tells}
+use Rattle.csl.proofs.Laws.Search.{search_tells}
 use Rattle.numbers.specs.Filled.{at, Filled, filled_at}
 use Rattle.verdicts.specs.Byte.{verdict_at}
 use Rattle.incoming_moves.specs.Shown.{IndexShows}

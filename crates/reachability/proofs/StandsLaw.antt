@@ -13,7 +13,7 @@ use borrow.Author.Tests.{eqb-true, eqb-false}
 use borrow.Author.Count.{below_more}
 use Rattle.csl.specs.Chain.{Chain, sum_to}
 use Rattle.csl.specs.Graph.{Leads}
-use Rattle.csl.specs.Laws.Sum.{sum_cong, sum_term}
+use Rattle.csl.proofs.Laws.Sum.{sum_cong, sum_term}
 use Rattle.numbers.specs.Sum.{sum_next}
 use Rattle.numbers.specs.Filled.{at}
 use Rattle.vectors.specs.Places.{values_from, value_at}

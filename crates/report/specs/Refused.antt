@@ -2,7 +2,7 @@
 use Rattle.std.specs.Prelude.{◌≡◌, ℕ, ◌+◌, ◌≤◌, ◌<◌, length}
 use Rattle.std.proofs.Common.{arith, length-append}
 use Rattle.csl.specs.Report.{decimal, refusal_text}
-use Rattle.csl.specs.Laws.Decimal.{length_within}
+use Rattle.csl.proofs.Laws.Decimal.{length_within}
 
 pub refusal_length : (n : ℕ) → length (refusal_text n) ≡ length (decimal n) + 9
 unfolding refusal_text

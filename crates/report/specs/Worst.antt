@@ -10,8 +10,8 @@ use Rattle.csl.specs.Order.{worst_first, In}
 use Rattle.csl.specs.Order.In.{here, there}
 use Rattle.csl.specs.Report.{report_text}
 use Rattle.csl.specs.Finished.{accepted_with}
-use Rattle.csl.specs.Laws.Order.{rows_rank, ordered_within, order_same}
-use Rattle.csl.specs.Laws.Listing.{report_same}
+use Rattle.csl.proofs.Laws.Order.{rows_rank, ordered_within, order_same}
+use Rattle.csl.proofs.Laws.Listing.{report_same}
 use Rattle.report.specs.Listing.{entry, verdict_in, listings, are_states}
 
 -- each number of a list that has states alone is below n

@@ -13,7 +13,7 @@ use Rattle.csl.specs.Moves.{Move, rate_in}
 use Rattle.csl.specs.Chain.{sum_to}
 use Rattle.csl.specs.Report.{decimal}
 use Rattle.csl.specs.Copy.{move_text, lines_text, moves_text, pairs_from, pairs_below}
-use Rattle.csl.specs.Laws.Decimal.{order, length_one, length_more, length_within, length_some}
+use Rattle.csl.proofs.Laws.Decimal.{order, length_one, length_more, length_within, length_some}
 use Rattle.numbers.specs.Sum.{sum_le, sum_add, sum_none}
 use Rattle.accepted.specs.Rates.{Within, Moving, line_share}
 

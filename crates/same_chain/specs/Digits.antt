@@ -7,7 +7,7 @@ use Rattle.std.proofs.lemmas.Bool.{eqb-false}
 use Rattle.csl.specs.Text.{Text, every}
 use Rattle.csl.specs.Number.{is_digit, zero_led, is_number, value_from, value_of}
 use Rattle.csl.specs.Report.{last_digit, decimal}
-use Rattle.csl.specs.Laws.Decimal.{digit_range, order, digits_one, digits_more, length_within, length_some}
+use Rattle.csl.proofs.Laws.Decimal.{digit_range, order, digits_one, digits_more, length_within, length_some}
 
 pub every_append : {A : Type 0} (p : A → Bool) (s t : List A) → every p s ≡ true → every p t ≡ true → every p (s ++ t) ≡ true
 unfolding every

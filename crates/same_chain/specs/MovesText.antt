@@ -11,7 +11,7 @@ use Rattle.csl.specs.Number.{is_number, value_of}
 use Rattle.csl.specs.Moves.{Move, moves_head, move_line, moves_layout, field_value, move_of, moves_of}
 use Rattle.csl.specs.Report.{decimal}
 use Rattle.csl.specs.Copy.{move_text, lines_text, moves_text}
-use Rattle.csl.specs.Laws.Grammar.{same_true}
+use Rattle.csl.proofs.Laws.Grammar.{same_true}
 use Rattle.same_chain.specs.Digits.{every_append, digits_pass, value_decimal, decimal_number, number_written}
 use Rattle.same_chain.specs.Joined.{joined, free, joined_more, joined_parts, parts_joined, ended, lines_written, lines_read, lines_ended}
 

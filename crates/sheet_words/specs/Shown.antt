@@ -7,7 +7,7 @@ use Rattle.csl.specs.Text.{Text, same, among}
 use Rattle.csl.specs.Labels.{no_repeat, names_of, states_of, place_of, mark_at}
 use Rattle.csl.specs.Sheet.{sheet_of}
 use Rattle.csl.specs.Chain.{chain_of}
-use Rattle.csl.specs.Laws.Grammar.{same_true}
+use Rattle.csl.proofs.Laws.Grammar.{same_true}
 use Rattle.accepted.specs.Rates.{next_exit_by_lines}
 use Rattle.accepted.specs.Sheet.{SheetPassed}
 use Rattle.numbers.specs.Filled.{at}

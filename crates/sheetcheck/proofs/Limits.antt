@@ -15,7 +15,7 @@ use Rattle.csl.specs.Backing.{PathBacked, ChanceKeeps}
 use Rattle.csl.specs.Verdicts.{Verdict, No, Yes, Undecided}
 use Rattle.csl.specs.Report.{Reported, PlainReport, depth_of, lower_of, upper_of}
 use Rattle.csl.specs.Lent.{Buffers, rooms, is_short}
-use Rattle.csl.specs.Laws.Backing.{kept_operands}
+use Rattle.csl.proofs.Laws.Backing.{kept_operands}
 use Rattle.csl.specs.Refusal.{Job, job_states, job_moves, job_chain, job_formula, in_load, short_buffer}
 use Rattle.accepted.specs.Job.{Passed}
 

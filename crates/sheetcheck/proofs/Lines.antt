@@ -7,9 +7,9 @@ use Rattle.csl.specs.Verdicts.{Verdict, No, Yes, Undecided}
 use Rattle.csl.specs.Order.{is_above, worst_first, by_number, In}
 use Rattle.csl.specs.Order.In.{here, there}
 use Rattle.csl.specs.Report.{verdict_word, row_text, rows_text, listing_text, report_text}
-use Rattle.csl.specs.Laws.Order.{rows_rank, ordered_within, ordered_length}
-use Rattle.csl.specs.Laws.Listing.{by_number_within, by_number_length}
-use Rattle.csl.specs.Laws.Decimal.{length_within}
+use Rattle.csl.proofs.Laws.Order.{rows_rank, ordered_within, ordered_length}
+use Rattle.csl.proofs.Laws.Listing.{by_number_within, by_number_length}
+use Rattle.csl.proofs.Laws.Decimal.{length_within}
 use Rattle.sheetcheck.proofs.Limits.{InRange}
 
 -- the longest word is `undecided`

@@ -16,7 +16,7 @@ use Rattle.csl.specs.Report.{report_text, refusal_text, depth_of}
 use Rattle.csl.specs.Lent.{Buffers, lengths, verdict_byte, column, written, filled}
 use Rattle.csl.specs.Refusal.{Job, job_states, job_chain, job_formula, text_refusal, outcome}
 use Rattle.csl.specs.Finished.{Answer, Accepted, TurnedBack, Finished, FinishedBy}
-use Rattle.csl.specs.Laws.Order.{ordered_length}
+use Rattle.csl.proofs.Laws.Order.{ordered_length}
 use Rattle.accepted.specs.Job.{passed, refused_by_texts, accepted_by_all, text_number_most}
 use Rattle.io.specs.Counts.{IsPrefixLen}
 use Rattle.io.proofs.Counting.{prefix_len_of_le}

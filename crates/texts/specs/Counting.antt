@@ -7,7 +7,7 @@ use Rattle.std.proofs.lemmas.Bool.{false≢true}
 use Rattle.std.proofs.Math.ListN.{length}
 use Rattle.csl.specs.Text.{Text}
 use Rattle.csl.specs.Number.{is_digit, value_from, value_of}
-pub use Rattle.csl.specs.Laws.Decimal.{digit_range}
+pub use Rattle.csl.proofs.Laws.Decimal.{digit_range}
 use Rattle.texts.specs.Digits.{digit_run}
 
 -- `used` of the digits at the start of s are counted, and spell `value`

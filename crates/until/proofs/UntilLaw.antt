@@ -10,7 +10,7 @@ use Rattle.csl.specs.Limits.{billion}
 use Rattle.csl.specs.Phase.{bit}
 use Rattle.csl.specs.Report as report
 use Rattle.csl.specs.Verdicts.{Verdict, No, Yes, Undecided, as_no, as_yes}
-use Rattle.csl.specs.Laws.Verdicts.{decided_same}
+use Rattle.csl.proofs.Laws.Verdicts.{decided_same}
 use Rattle.bounds.specs.Reading.{bit_most}
 use Rattle.bounds.specs.StepValues.{most_gap, pointed}
 use Rattle.phase.specs.Load.{load_depth}
