@@ -17,7 +17,7 @@ use refusals::{Dimensions, Lengths, Tested};
 use verdicts::Answer;
 
 // The answer to a job, and how many states a report has; none where the job is refused.
-#[derive(Drop)]
+#[derive(Clone, Copy)]
 pub struct Checked {
     pub answer: Answer,
     pub states: usize,

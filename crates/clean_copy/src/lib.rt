@@ -23,7 +23,7 @@ const MOVE_WORDS: usize = 2 * limits::MOST_MOVES;
 const COLUMN_WORDS: usize = 3 * MOST_STATES;
 
 // What copying comes to.
-#[derive(Drop)]
+#[derive(Clone, Copy)]
 pub enum CopyAnswer {
     // The copy stands in the buffer's first bytes, so many.
     Length(usize),

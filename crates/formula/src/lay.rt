@@ -15,7 +15,7 @@ use crate::{size, waiting};
 use grammar::{Bound, Head, PathStart};
 
 // A path formula, or none.
-#[derive(Drop)]
+#[derive(Clone, Copy)]
 enum Route {
     Is(Path),
     Missing,

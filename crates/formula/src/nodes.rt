@@ -3,7 +3,7 @@ use verdicts::Comparison;
 
 // A path formula: an until with its hours and the places of its two operands; the next move with the place of its operand; or an until between
 // two times, with them and the places of its two operands. Hours and times are in hundredths of an hour.
-#[derive(Drop)]
+#[derive(Clone, Copy)]
 pub enum Path {
     Until {
         hundredths: u64,
@@ -20,7 +20,7 @@ pub enum Path {
 }
 
 // A node: a label by its place among the names, operands by their places in the row.
-#[derive(Drop)]
+#[derive(Clone, Copy)]
 pub enum Kind {
     Always,
     Label(usize),
@@ -34,13 +34,13 @@ pub enum Kind {
 }
 
 // A node of a formula.
-#[derive(Drop)]
+#[derive(Clone, Copy)]
 pub struct Node {
     pub kind: Kind,
 }
 
 // The nodes of a formula in a row; the first `count` are its own.
-#[derive(Drop)]
+#[derive(Clone, Copy)]
 pub struct Nodes {
     pub nodes: [Node; limits::MOST_NODES],
     pub count: usize,

@@ -6,7 +6,7 @@ ghost use Rattle.formula.specs.Operands.{operands_in, operands_of};
 use crate::nodes::{Kind, Path};
 
 // No operand, one or two, by their places in the row.
-#[derive(Drop)]
+#[derive(Clone, Copy)]
 pub enum Operands {
     None,
     One(usize),

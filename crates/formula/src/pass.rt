@@ -10,7 +10,7 @@ use limits::{MOST_HUNDREDTHS, MOST_RATE_HUNDREDTHS, MOST_THRESHOLD};
 
 // What is asked of every node: a label's place below a number of names; thresholds and hours within their limits; two times in order; a rate
 // times the hours of each phase, in hundredths, within its limit; or that no search along the moves may decide it.
-#[derive(Drop)]
+#[derive(Clone, Copy)]
 pub enum Test {
     Labels(usize),
     Limits,

@@ -12,7 +12,7 @@ use limits::{MOST_LEVELS, MOST_NODES};
 
 // What a text spells: whether that is a formula, its nodes and levels, counted past every limit, and the nodes themselves where there are at
 // most 64 in at most 16 levels. Where there are more, or the text spells none, there are no nodes.
-#[derive(Drop)]
+#[derive(Clone, Copy)]
 pub struct Reading {
     pub readable: bool,
     pub count: usize,

@@ -10,7 +10,7 @@ ghost use Rattle.formula.specs.Size.{size_of, over_one, over_two, SizeFits, exte
 use grammar::{Bound, Head, PathStart};
 
 // What reading a state formula found: the bytes left behind it, and its nodes and levels.
-#[derive(Drop)]
+#[derive(Clone, Copy)]
 pub enum Size {
     Read {
         left: usize,
@@ -21,7 +21,7 @@ pub enum Size {
 }
 
 // Whether a text spells a formula, and where it does its nodes and levels.
-#[derive(Drop)]
+#[derive(Clone, Copy)]
 pub struct Extent {
     pub readable: bool,
     pub nodes: usize,

@@ -7,7 +7,7 @@ use crate::operands::{Operands, operands_of};
 
 // Places wait from `from` on, the next first. Each node takes one place and adds at most two, so for 64 nodes there is room on either side of
 // the middle, where the first place is put.
-#[derive(Drop)]
+#[derive(Clone, Copy)]
 pub struct Waiting {
     pub places: [usize; 2 * limits::MOST_NODES],
     pub from: usize,

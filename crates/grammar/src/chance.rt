@@ -9,21 +9,21 @@ use texts::Num;
 use verdicts::Comparison;
 
 // A comparison, or none.
-#[derive(Drop)]
+#[derive(Clone, Copy)]
 enum Sign {
     Is(Comparison),
     Missing,
 }
 
 // A number of the formula, or none.
-#[derive(Drop)]
+#[derive(Clone, Copy)]
 pub enum Amount {
     Is(u64),
     Missing,
 }
 
 // The comparison and the threshold of a `P`, or one of them is missing.
-#[derive(Drop)]
+#[derive(Clone, Copy)]
 pub enum Bound {
     Is(Comparison, u64),
     Missing,

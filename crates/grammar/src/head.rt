@@ -6,7 +6,7 @@ ghost use Rattle.texts.specs.Behind.{after_part};
 ghost use Rattle.grammar.specs.Head.{head_meant, HeadFits};
 
 // How a state formula begins.
-#[derive(Drop)]
+#[derive(Clone, Copy)]
 pub enum Head {
     Truth,
     Name,

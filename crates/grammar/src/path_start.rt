@@ -8,7 +8,7 @@ use crate::chance::Amount;
 use crate::hours::read_hundredths;
 
 // `U` and its hours, `X`, or `V` and its two times in their order, all in hundredths; or none of these.
-#[derive(Drop)]
+#[derive(Clone, Copy)]
 pub enum PathStart {
     Until(u64),
     Next,

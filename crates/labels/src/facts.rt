@@ -7,7 +7,7 @@ use crate::names::{commas, first_line};
 
 // What the refusals ask of the labels text, how many names it has, and the bytes of its first line. All but `layout` speak of a text
 // whose layout is right.
-#[derive(Drop)]
+#[derive(Clone, Copy)]
 pub struct LabelsFacts {
     pub layout: bool,
     pub head: bool,

@@ -32,7 +32,7 @@ pub fn state_line(t: &[u8], names: usize) -> Num
 }
 
 // The lines after the first: how many, and whether their states are 0, 1, 2 and so on; or one of them is broken.
-#[derive(Drop)]
+#[derive(Clone, Copy)]
 pub enum StateLines {
     Lines(usize, bool),
     Broken,

@@ -65,7 +65,7 @@ pub const VECTOR_SPARE: usize = 512;
 pub const MOST_ROWS: usize = 17;
 
 // All constants, each under one word.
-#[derive(Drop)]
+#[derive(Clone, Copy)]
 struct Limits {
     billion: u64,
     numbers: usize,

@@ -13,7 +13,7 @@ use limits::MOST_STATES;
 
 // What the refusals ask of the moves text. All but `layout` speak of a text whose layout is right. `rates` says that all states are known and
 // not too many, and the rates good; `top` is then the greatest sum of rates from one state to others, and 0 elsewhere.
-#[derive(Drop)]
+#[derive(Clone, Copy)]
 pub struct MovesFacts {
     pub layout: bool,
     pub head: bool,

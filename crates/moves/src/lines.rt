@@ -5,7 +5,7 @@ ghost use Rattle.moves.specs.Line.{move_at, LineFits};
 use texts::Num;
 
 // A line of three numbers, and its bytes with the line feed.
-#[derive(Drop)]
+#[derive(Clone, Copy)]
 pub enum Line {
     Move {
         from: u64,

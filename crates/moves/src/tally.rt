@@ -4,7 +4,7 @@ ghost use Rattle.csl.specs.Limits.{sheet_bytes};
 ghost use Rattle.moves.specs.Tally.{begun, added};
 
 // What the lines so far say: how many; a state past the last; a rate of 0.
-#[derive(Drop)]
+#[derive(Clone, Copy)]
 pub struct Tally {
     pub count: usize,
     pub strange: bool,

@@ -5,7 +5,7 @@ ghost use Rattle.verdicts.specs.Byte.{verdict_at, read_as};
 ghost use Rattle.next_move.specs.Row.{RowAsked, Entered};
 
 // The sum of the rates that enter states where the operand holds, undecided read as no, and as yes.
-#[derive(Drop)]
+#[derive(Clone, Copy)]
 pub struct Entering {
     pub low: u64,
     pub high: u64,

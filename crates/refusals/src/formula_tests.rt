@@ -16,7 +16,7 @@ use formula::{Nodes, Reading, Test};
 use limits::{MOST_LEVELS, MOST_NODES};
 
 // What the tests of a formula answer, and the nodes that it was read into.
-#[derive(Drop)]
+#[derive(Clone, Copy)]
 pub struct TestedFormula {
     pub tested: Tested,
     pub nodes: Nodes,

@@ -7,7 +7,7 @@ ghost use Rattle.refusals.specs.Lengths.{lengths_of};
 use crate::sheet_tests::Dimensions;
 
 // How many places each lent buffer has.
-#[derive(Drop)]
+#[derive(Clone, Copy)]
 pub struct Lengths {
     pub lower: usize,
     pub upper: usize,

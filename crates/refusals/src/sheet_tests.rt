@@ -11,7 +11,7 @@ use limits::{MOST_MOVES, MOST_STATES, SHEET_BYTES};
 use moves::MovesFacts;
 
 // What a sheet that passed has: its states, moves and label names, the bytes of its labels' first line, and the uniformisation rate.
-#[derive(Drop)]
+#[derive(Clone, Copy)]
 pub struct Dimensions {
     pub states: usize,
     pub moves: usize,
@@ -30,7 +30,7 @@ pub const NO_SHEET: Dimensions = Dimensions {
 };
 
 // What the tests of a sheet answer, and what the sheet has.
-#[derive(Drop)]
+#[derive(Clone, Copy)]
 pub struct TestedSheet {
     pub tested: Tested,
     pub sheet: Dimensions,

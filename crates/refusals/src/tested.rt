@@ -1,5 +1,5 @@
 // What tests answer.
-#[derive(Drop)]
+#[derive(Clone, Copy)]
 pub enum Tested {
     // None of them holds.
     Passed,

@@ -20,7 +20,7 @@ use listings::{listings_fit, write_listings};
 use verdicts::Answer;
 
 // What rendering comes to.
-#[derive(Drop)]
+#[derive(Clone, Copy)]
 pub enum Rendered {
     // The text stands in the buffer's first bytes, so many.
     Text(usize),

@@ -10,14 +10,14 @@ use decimals::write_bytes;
 use verdicts::Verdict;
 
 // Which of the two: the states by their numbers, or as they stand in the order.
-#[derive(Drop)]
+#[derive(Clone, Copy)]
 enum Listing {
     ByNumber,
     WorstFirst,
 }
 
 // What a text leaves of a room.
-#[derive(Drop)]
+#[derive(Clone, Copy)]
 enum Remainder {
     // So many bytes.
     Bytes(usize),

@@ -5,7 +5,7 @@ ghost use Rattle.csl.specs.Number.{is_digit};
 ghost use Rattle.texts.specs.Digits.{number_at, settled, NumberFits};
 
 // The number that was read, and how many bytes it takes.
-#[derive(Drop)]
+#[derive(Clone, Copy)]
 pub enum Num {
     Value(u64, usize),
     Bad,

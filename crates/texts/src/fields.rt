@@ -26,7 +26,7 @@ pub fn field(t: &[u8], end: u8) -> Num
 }
 
 // A number that the start of a text holds, and the bytes that it takes with the one that ends it.
-#[derive(Drop)]
+#[derive(Clone, Copy)]
 pub struct Known {
     pub value: u64,
     pub used: usize,

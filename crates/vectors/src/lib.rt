@@ -32,7 +32,7 @@ pub const WEIGHTS: usize = 9;
 const MARKS: usize = limits::VECTOR_PLACES - 1;
 
 // Where each column begins.
-#[derive(Drop)]
+#[derive(Clone, Copy)]
 struct Places {
     values: usize,
     next: usize,

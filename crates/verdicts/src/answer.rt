@@ -1,5 +1,5 @@
 // What a job comes to.
-#[derive(Drop)]
+#[derive(Clone, Copy)]
 pub enum Answer {
     // The report stands in the lent buffers; this is the depth in its lines.
     Accepted(u64),

@@ -1,5 +1,5 @@
 // The four comparisons of a `P` with its threshold.
-#[derive(Drop)]
+#[derive(Clone, Copy)]
 pub enum Comparison {
     Less,
     AtMost,

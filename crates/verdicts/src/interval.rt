@@ -12,7 +12,7 @@ use crate::verdict::Verdict;
 const ONE: u32 = limits::BILLION as u32;
 
 // The two ends.
-#[derive(Drop)]
+#[derive(Clone, Copy)]
 pub struct Interval {
     pub lower: u32,
     pub upper: u32,

@@ -7,7 +7,7 @@ ghost use Rattle.verdicts.specs.Paper.{verdict_of};
 ghost use Rattle.verdicts.specs.Byte.{verdict_at, read_as};
 
 // Yes, no or undecided.
-#[derive(Drop)]
+#[derive(Clone, Copy)]
 pub enum Verdict {
     No,
     Yes,

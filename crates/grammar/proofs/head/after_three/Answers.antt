@@ -1,0 +1,6 @@
+-- `after_three` meets its contract. Assumes nothing.
+use borrow.Author.Rules.{rules}
+use Rattle.grammar.proofs.head.after_three.Goals as goal
+
+pub returns : goal.returns
+returns c = rw (c.after.ensures, c.after_two-t.ensures)

@@ -1,0 +1,6 @@
+-- `first_hours` meets its contract. Assumes nothing.
+use borrow.Author.Rules.{rules}
+use Rattle.grammar.proofs.path_start.first_hours.Goals as goal
+
+pub returns : goal.returns
+returns c = rw (c.read_hundredths.ensures, c.part.ensures)

@@ -1,0 +1,26 @@
+-- `fill` meets its contract. Assumes nothing.
+use Prim.Native.Nat.{◌-◌}
+use borrow.Author.Rules.{rules}
+use Rattle.verdict_rows.specs.Filling.{Filling, filling_laws}
+use Rattle.verdict_rows.proofs.row.fill.Goals as goal
+
+pub loop-s-init : goal.loop-s-init
+loop-s-init c = search (rules, filling_laws)
+
+pub bounds-row-s : goal.bounds-row-s
+bounds-row-s c = search (rules, filling_laws)
+
+pub overflow_add-s : goal.overflow_add-s
+overflow_add-s c = search (rules, filling_laws)
+
+pub loop-s-smaller : goal.loop-s-smaller
+loop-s-smaller c = search (rules, filling_laws)
+
+pub loop-s-preserved : goal.loop-s-preserved
+loop-s-preserved c = search (rules, filling_laws)
+
+pub shape_of-row : goal.shape_of-row
+shape_of-row c = search (rules, filling_laws)
+
+pub returns : goal.returns
+returns c = search (rules, filling_laws)

@@ -1,0 +1,15 @@
+-- `tell` meets its contract. Assumes nothing.
+use Prim.Native.Nat.{◌+◌, ◌-◌}
+use lib.ListN.{get_or}
+use borrow.Author.Rules.{rules}
+use Rattle.verdicts.specs.Paper.{comparison_of}
+use Rattle.verdict_rows.specs.Byte.{told_byte}
+use Rattle.verdict_rows.specs.Filling.{Filling, filling_laws}
+use Rattle.verdict_rows.proofs.RowLaw.{told_more}
+use Rattle.verdict_rows.proofs.row.tell.Given as goal
+
+abbrev pub invariant-loop-s : goal.invariant-loop-s
+invariant-loop-s l = Filling (λ k. told_byte (comparison_of l.comparison) l.threshold (get_or l.initial.rows (l.n + k) 0)) l.n l.initial.rows l.rows l.s
+
+abbrev pub decreases-loop-s : goal.decreases-loop-s
+decreases-loop-s l = l.n - l.s
