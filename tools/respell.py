@@ -18,6 +18,7 @@ WORD = re.compile(r'[^\s(){}.;,@"«»\[\]|]+')
 QUIET = re.compile(r'"(?:[^"\\\n]|\\.)*"|(?<!\S)--[^\n]*')
 HEADS = {"c", "w", "l", "tie", "goal", "g", "args", "initial", "fn", "new", "auto", "ranges"}
 GHOST = re.compile(r"ghost\s+use\b[^;]*;|(?:requires|ensures)\s*\*?\s*(?:\w+\s*)?\{|ghost\s*(?:\w+\s*:\s*)?\{")
+CASES = {"nextMove": "next_move", "noPath": "no_path"}      # of enums
 DECLARED = re.compile(r"^( *)((?:abbrev |unfoldable |pub |ruleset )*)([^\s(){}.;,@\"«»:]+)(?: [({][^\n]*?[)}])* (?::(?= )|=(?= \())", re.M)
 
 
@@ -116,7 +117,7 @@ def table(root):
             both = seen[turned[name]] & seen[name]
             if both and turned[name] not in turned:
                 print(f"look: {turned[name]} stands already in {len(both)} files of {name}: {sorted(both)[0]}")
-    return turned, words, fields
+    return turned | CASES, words, fields
 
 
 def spelled(text, turned, may):

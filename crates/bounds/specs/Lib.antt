@@ -11,8 +11,6 @@ pub mod Width
 pub mod StepValues
 pub mod Moved
 pub mod Rounded
-pub mod Near
-pub mod Quotient
 pub mod Shifted
 pub mod PhaseEnd
 pub mod SummedEnds
@@ -21,4 +19,3 @@ pub mod UntilEnds
 pub mod TwoPhases
 pub mod EarlierEnds
 pub mod Found
-pub mod WholeHours

@@ -9,8 +9,6 @@ use Rattle.csl.proofs.Laws.Decided.{all_decided}
 use Rattle.bounds.specs.Unit.{unit, one}
 use Rattle.bounds.specs.Ends.{lower_end}
 use Rattle.bounds.specs.Upper.{upper_end}
--- the verdict of a byte, for those that build on this crate
-pub use Rattle.verdicts.specs.Byte.{verdict_at}
 
 -- which rule a later step follows: value 1; value 0; moved and divided by q
 abbrev pub settled : Bool → Bool → ℕ → ℕ

@@ -8,7 +8,7 @@ use Rattle.csl.specs.Limits.{billion, formula_digits, hour, most_hundredths, mos
 use Rattle.csl.specs.Number.{is_number, value_of}
 use Rattle.csl.specs.Hours.{point, hundredths_of}
 use Rattle.csl.specs.Formula.{nodes, nodes_in, levels, levels_in, labels_pass, labels_pass_in, paths_pass, paths_pass_in}
-use Rattle.csl.specs.Formula.{Formula, chance, Path, until, nextMove, between, PathOf, until_of, next_of, between_of, two_phases, Comparison, Less, AtMost, AtLeast, More}
+use Rattle.csl.specs.Formula.{Formula, chance, Path, until, next_move, between, PathOf, until_of, next_of, between_of, two_phases, Comparison, Less, AtMost, AtLeast, More}
 use Rattle.csl.specs.Grammar.{read_state, whole, Spells}
 use Rattle.csl.specs.Fraction.{frac, IsFraction, Below, Same, times, sum_up, round_up, billionths}
 use Rattle.csl.specs.Chain.{Chain, exit_rate, top_rate, load, depth}
@@ -122,14 +122,14 @@ module _ (c : Chain) (r : Comparison) (p t : ℕ) (a b : Formula) (lower upper :
 -- The same of a next move: "no reading puts the fraction outside the interval"; "with a decided operand the width is at most 1". Both ends are
 -- determined by the verdicts of the operand.
 module _ (c : Chain) (r : Comparison) (p : ℕ) (a : Formula) (lower upper : ℕ → ℕ) (v : ℕ → Verdict)
-    (k : Reported c (chance r p (nextMove a)) lower upper v) where
+    (k : Reported c (chance r p (next_move a)) lower upper v) where
   pub fractions_lie_in_the_interval : (x : ℕ → Bool) → Reading c.states k.first x → (s : ℕ) → s < c.states
       → Below (billionths (lower s)) (next_fraction c x s) × Below (next_fraction c x s) (billionths (upper s))
   fractions_lie_in_the_interval x i s l =
-      values_lie_in_the_interval c r p (nextMove a) lower upper v k (next_of x) (reads_next k.first x i) s l
+      values_lie_in_the_interval c r p (next_move a) lower upper v k (next_of x) (reads_next k.first x i) s l
 
   pub intervals_of_a_next_move_are_narrow : AllDecided c k.first → (s : ℕ) → s < c.states → upper s ≤ lower s + 1
-  intervals_of_a_next_move_are_narrow i s l = intervals_are_narrow c r p (nextMove a) lower upper v k i s l
+  intervals_of_a_next_move_are_narrow i s l = intervals_are_narrow c r p (next_move a) lower upper v k i s l
 
   pub moves_decide_a_next_move : AllDecided c k.first → (s : ℕ) → s < c.states
       → (p ≡ 0 → ByPossible r (Enters c (least k.first) s) (v s)) × (p ≡ billion → ByCertain r (EntersOnly c (least k.first) s) (v s))

@@ -1,7 +1,7 @@
 -- "Such ends and verdicts are a backing of the report: a verdict for each node and state, two ends as well where the node is a `P`, and for
 -- the outermost node the report's own." By recursion on the formula: each node has the backings of its operands. Assumes nothing.
 use Rattle.std.specs.Prelude.{◌≡◌, ℕ, ◌<◌}
-use Rattle.csl.specs.Formula.{Formula, always, label, negated, both, chance, Path, until, nextMove, between, PathOf, until_of, next_of, between_of, Comparison}
+use Rattle.csl.specs.Formula.{Formula, always, label, negated, both, chance, Path, until, next_move, between, PathOf, until_of, next_of, between_of, Comparison}
 use Rattle.csl.specs.Chain.{Chain}
 use Rattle.csl.specs.Verdicts.{Verdict, Yes, marked, negation, conjunction}
 use Rattle.csl.specs.Path.{FollowsAt, SidesAt, AllDecided}
@@ -62,13 +62,13 @@ abbrev mutual
 
   pub PathBacked : Chain → Path → (PathOf (ℕ → Verdict) → Type 0) → Type 0
   PathBacked c (until t a b) K = TwoBacked (λ x. Backed c a x) (λ x. Backed c b x) λ v w. K (until_of t v w)
-  PathBacked c (nextMove a) K = OneBacked (λ x. Backed c a x) λ v. K (next_of v)
+  PathBacked c (next_move a) K = OneBacked (λ x. Backed c a x) λ v. K (next_of v)
   PathBacked c (between t u a b) K = TwoBacked (λ x. Backed c a x) (λ x. Backed c b x) λ v w. K (between_of t u v w)
 
 -- the operands' verdicts
 abbrev pub operands_of : (c : Chain) (w : Path) (K : PathOf (ℕ → Verdict) → Type 0) → PathBacked c w K → PathOf (ℕ → Verdict)
 operands_of c (until t a b) K k = until_of t k.first k.second
-operands_of c (nextMove a) K k = next_of k.first
+operands_of c (next_move a) K k = next_of k.first
 operands_of c (between t u a b) K k = between_of t u k.first k.second
 
 -- nothing is undecided, at any node and state of a backing
@@ -84,7 +84,7 @@ unfoldable mutual
   pub NothingUndecidedIn : (c : Chain) (w : Path) (K : PathOf (ℕ → Verdict) → Type 0) → PathBacked c w K → Type 0
   NothingUndecidedIn c (until t a e) K k =
       NothingUndecided c a k.first k.first_backed × NothingUndecided c e k.second k.second_backed
-  NothingUndecidedIn c (nextMove a) K k = NothingUndecided c a k.first k.first_backed
+  NothingUndecidedIn c (next_move a) K k = NothingUndecided c a k.first k.first_backed
   NothingUndecidedIn c (between t u a e) K k =
       NothingUndecided c a k.first k.first_backed × NothingUndecided c e k.second k.second_backed
 
@@ -102,6 +102,6 @@ unfoldable mutual
   pub SidesThroughoutIn : (c : Chain) (w : Path) (K : PathOf (ℕ → Verdict) → Type 0) → PathBacked c w K → Type 0
   SidesThroughoutIn c (until t a e) K k =
       SidesThroughout c a k.first k.first_backed × SidesThroughout c e k.second k.second_backed
-  SidesThroughoutIn c (nextMove a) K k = SidesThroughout c a k.first k.first_backed
+  SidesThroughoutIn c (next_move a) K k = SidesThroughout c a k.first k.first_backed
   SidesThroughoutIn c (between t u a e) K k =
       SidesThroughout c a k.first k.first_backed × SidesThroughout c e k.second k.second_backed

@@ -4,7 +4,7 @@ use Prim.Native.String.{String}
 use Rattle.std.proofs.Math.Option.{none, some}
 use Rattle.csl.specs.Text.{Text, bytes}
 use Rattle.csl.specs.Limits.{most_nodes, hour, most_hundredths, most_rate_hundredths, rate_hundredths}
-use Rattle.csl.specs.Formula.{Formula, always, label, negated, both, chance, Path, until, nextMove, between, Less, AtMost, AtLeast, More}
+use Rattle.csl.specs.Formula.{Formula, always, label, negated, both, chance, Path, until, next_move, between, Less, AtMost, AtLeast, More}
 use Rattle.csl.specs.Fraction.{Fraction, frac, Same}
 use Rattle.csl.specs.Sheet.{sheet_of}
 use Rattle.csl.specs.Chain.{Chain, chain_of}
@@ -182,20 +182,20 @@ pub record DecimalHours : Type 0 where
 -- The next move, over the small sheet and over sheets with moves to the own state.
 pub record NextMoves : Type 0 where
   -- "a path formula may also be `X` and a state formula"; "depth is 0"
-  pub next : Accepts (small "P >= 333333334 X dead\n") (chance AtLeast 333333334 (nextMove dead)) 500 0
+  pub next : Accepts (small "P >= 333333334 X dead\n") (chance AtLeast 333333334 (next_move dead)) 500 0
   pub next_printed : Prints (small "P >= 333333334 X dead\n")
       "0,1000000000,1000000000,0,yes\n1,0,0,0,no\n" "0,1000000000,1000000000,0,yes\n1,0,0,0,no\n"
-  pub within_until : Accepts (small "P >= 5 U 8 up P > 5 X dead\n") (chance AtLeast 5 (until eight up (chance More 5 (nextMove dead)))) 500 42
-  pub around_until : Accepts (small "P > 5 X P < 5 U 8 up dead\n") (chance More 5 (nextMove (chance Less 5 (until eight up dead)))) 500 0
+  pub within_until : Accepts (small "P >= 5 U 8 up P > 5 X dead\n") (chance AtLeast 5 (until eight up (chance More 5 (next_move dead)))) 500 42
+  pub around_until : Accepts (small "P > 5 X P < 5 U 8 up dead\n") (chance More 5 (next_move (chance Less 5 (until eight up dead)))) 500 0
   pub two_operands : Refuses (small "P < 1 X dead up\n") 10
   pub no_operand : Refuses (small "P < 1 X\n") 10
   pub hours : Refuses (small "P < 1 X 8 dead\n") 10
   pub no_threshold : Refuses (small "X dead\n") 10
   -- its threshold is tested by 13, and there is no 14
   pub high_threshold : Refuses (small "P < 1000000001 X dead\n") 13
-  pub fast_sheet : Accepts (fast "P >= 5 X dead\n") (chance AtLeast 5 (nextMove dead)) 64000000 0
+  pub fast_sheet : Accepts (fast "P >= 5 X dead\n") (chance AtLeast 5 (next_move dead)) 64000000 0
   -- moves to the own state "are now read and stored", and "count in the exit rate for `X`": one third, "rounded down", "rounded up"
-  pub restart : Accepts (restarts "P >= 333333334 X dead\n") (chance AtLeast 333333334 (nextMove dead)) 1 0
+  pub restart : Accepts (restarts "P >= 333333334 X dead\n") (chance AtLeast 333333334 (next_move dead)) 1 0
   pub restart_printed : Prints (restarts "P >= 333333334 X dead\n")
       "0,333333333,333333334,0,undecided\n1,0,0,0,no\n" "0,333333333,333333334,0,undecided\n1,0,0,0,no\n"
   -- "Until leaves them out of exit rates and q": out of the load, and of 14
@@ -285,7 +285,7 @@ pub record NotBeforeAnHour : Type 0 where
 -- Moves in any order, and copies of them, over the labels of the small sheet.
 pub record AnyOrder : Type 0 where
   -- "lines may stand in any order and repeated pairs are added together; 8 is never given again": a sheet whose rates are those of `restarts`
-  pub added_together : Accepts (job_of "from,to,rate\n0,1,1\n0,0,1\n0,0,1\n" "P >= 333333334 X dead\n") (chance AtLeast 333333334 (nextMove dead)) 1 0
+  pub added_together : Accepts (job_of "from,to,rate\n0,1,1\n0,0,1\n0,0,1\n" "P >= 333333334 X dead\n") (chance AtLeast 333333334 (next_move dead)) 1 0
   pub falling : Accepts (job_of "from,to,rate\n1,0,5\n0,1,500\n" "P <= 10000000 U 8 up dead\n") (chance AtMost 10000000 (until eight up dead)) 500 42
   -- "9 looks at each line's rate and at the totals": 0 in a line though its pair has a rate; over 64,000,000 in one line, or in two together
   pub no_rate : Refuses (job_of "from,to,rate\n0,1,5\n0,1,0\n" "tt\n") 9

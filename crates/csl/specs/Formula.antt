@@ -26,13 +26,13 @@ mutual
 
   pub data Path : Type 0 where
     until : ℕ → Formula → Formula → Path
-    nextMove : Formula → Path
+    next_move : Formula → Path
     between : ℕ → ℕ → Formula → Formula → Path
 
 -- a path formula as a path over formulas
 abbrev pub path_of : Path → PathOf Formula
 path_of (until t a b) = until_of t a b
-path_of (nextMove a) = next_of a
+path_of (next_move a) = next_of a
 path_of (between t u a b) = between_of t u a b
 
 -- the same path over other operands
@@ -52,7 +52,7 @@ unfoldable mutual
 
   pub nodes_in : Path → ℕ
   nodes_in (until t a b) = nodes a + nodes b
-  nodes_in (nextMove a) = nodes a
+  nodes_in (next_move a) = nodes a
   nodes_in (between t u a b) = nodes a + nodes b
 
 -- "nested at most 16 deep; a label alone is depth 1"
@@ -66,7 +66,7 @@ unfoldable mutual
 
   pub levels_in : Path → ℕ
   levels_in (until t a b) = max (levels a) (levels b)
-  levels_in (nextMove a) = levels a
+  levels_in (next_move a) = levels a
   levels_in (between t u a b) = max (levels a) (levels b)
 
 -- each label name in it passes a test
@@ -80,7 +80,7 @@ unfoldable mutual
 
   pub labels_pass_in : (Text → Bool) → Path → Bool
   labels_pass_in test (until t a b) = labels_pass test a && labels_pass test b
-  labels_pass_in test (nextMove a) = labels_pass test a
+  labels_pass_in test (next_move a) = labels_pass test a
   labels_pass_in test (between t u a b) = labels_pass test a && labels_pass test b
 
 -- the hours that a path is written with pass a test, in hundredths; `X` has none
@@ -121,5 +121,5 @@ unfoldable mutual
 
   pub paths_pass_in : (ℕ → PathOf Formula → Bool) → Path → Bool
   paths_pass_in test (until t a b) = paths_pass test a && paths_pass test b
-  paths_pass_in test (nextMove a) = paths_pass test a
+  paths_pass_in test (next_move a) = paths_pass test a
   paths_pass_in test (between t u a b) = paths_pass test a && paths_pass test b

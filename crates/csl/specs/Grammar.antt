@@ -7,7 +7,7 @@ use Rattle.csl.specs.Number.{is_number, value_of}
 use Rattle.csl.specs.Line.{space, parts, lines_of, first_line, is_ended}
 use Rattle.csl.specs.Labels.{is_word}
 use Rattle.csl.specs.Hours.{hundredths_of}
-use Rattle.csl.specs.Formula.{Formula, always, label, negated, both, chance, until, nextMove, between, Comparison, Less, AtMost, AtLeast, More}
+use Rattle.csl.specs.Formula.{Formula, always, label, negated, both, chance, until, next_move, between, Comparison, Less, AtMost, AtLeast, More}
 
 unfoldable pub tokens_of : Text → List Text
 tokens_of text = parts space (first_line text)
@@ -49,19 +49,19 @@ pair read make ts = and_then (read ts) λ a more. and_then (read more) λ b rest
 
 -- how a path formula begins
 pub data PathHead : Type 0 where
-  untils nexts betweens noPath : PathHead
+  untils nexts betweens no_path : PathHead
 
 unfoldable pub path_head_of : Text → PathHead
-path_head_of w = cond (same w (bytes "U")) untils (cond (same w (bytes "X")) nexts (cond (same w (bytes "V")) betweens noPath))
+path_head_of w = cond (same w (bytes "U")) untils (cond (same w (bytes "X")) nexts (cond (same w (bytes "V")) betweens no_path))
 
 -- "A path formula is `U`, .. hours and two state formulas"; "a path formula may also be `X` and a state formula"; "a path formula may be `V` with
 -- two times and two state formulas".
 unfoldable pub path_behind : Reader → Comparison → ℕ → PathHead → Reader
 path_behind read r p untils ts = on_token hundredths_of ts λ t rest. pair read (λ a b. chance r p (until t a b)) rest
-path_behind read r p nexts ts = single read (λ a. chance r p (nextMove a)) ts
+path_behind read r p nexts ts = single read (λ a. chance r p (next_move a)) ts
 path_behind read r p betweens ts =
     on_token hundredths_of ts λ t more. on_token hundredths_of more λ u rest. pair read (λ a b. chance r p (between t u a b)) rest
-path_behind read r p noPath ts = nothing
+path_behind read r p no_path ts = nothing
 
 unfoldable pub path : Reader → Comparison → ℕ → Reader
 path read r p [] = nothing
@@ -118,7 +118,7 @@ pub data Spells : Formula → List Text → Type 0 where
       → Spells (chance r p (until u a b)) (bytes "P" ∷ sign ∷ threshold ∷ bytes "U" ∷ hours ∷ s ++ t)
   spells_next : {a : Formula} {s : List Text} (sign threshold : Text) (r : Comparison) (p : ℕ)
       → comparison_of sign ≡ some r → number_of threshold ≡ some p → Spells a s
-      → Spells (chance r p (nextMove a)) (bytes "P" ∷ sign ∷ threshold ∷ bytes "X" ∷ s)
+      → Spells (chance r p (next_move a)) (bytes "P" ∷ sign ∷ threshold ∷ bytes "X" ∷ s)
   spells_between : {a b : Formula} {s t : List Text} (sign threshold earlier later : Text) (r : Comparison) (p u v : ℕ)
       → comparison_of sign ≡ some r → number_of threshold ≡ some p → hundredths_of earlier ≡ some u → hundredths_of later ≡ some v
       → Spells a s → Spells b t

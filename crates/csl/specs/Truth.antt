@@ -1,7 +1,7 @@
 -- "A truth table gives each node and state yes or no. It obeys CSL's rules if, with the table's own entries as operands, .." By recursion
 -- on the formula: each node has the tables of its operands. Assumes nothing.
 use Rattle.std.specs.Prelude.{◌≡◌, Bool, true, false, not, ◌&&◌, ℕ}
-use Rattle.csl.specs.Formula.{Formula, always, label, negated, both, chance, Path, until, nextMove, between, PathOf, until_of, next_of, between_of, Comparison}
+use Rattle.csl.specs.Formula.{Formula, always, label, negated, both, chance, Path, until, next_move, between, PathOf, until_of, next_of, between_of, Comparison}
 use Rattle.csl.specs.Chain.{Chain}
 use Rattle.csl.specs.Limit.{Value, Holds, opposite}
 use Rattle.csl.specs.Verdicts.{Verdict, Reading}
@@ -56,7 +56,7 @@ abbrev mutual
 
   pub PathObeys : Chain → Path → (PathOf (ℕ → Bool) → Type 0) → Type 0
   PathObeys c (until t a e) L = TwoTrue (λ x. Obeys c a x) (λ x. Obeys c e x) λ x y. L (until_of t x y)
-  PathObeys c (nextMove a) L = OneTrue (λ x. Obeys c a x) λ x. L (next_of x)
+  PathObeys c (next_move a) L = OneTrue (λ x. Obeys c a x) λ x. L (next_of x)
   PathObeys c (between t u a e) L = TwoTrue (λ x. Obeys c a x) (λ x. Obeys c e x) λ x y. L (between_of t u x y)
 
 -- the table agrees with the backing at this node and at every node below it
@@ -76,7 +76,7 @@ unfoldable mutual
   ThroughoutIn c (until t a e) K L k o =
       Throughout c a k.first o.first k.first_backed o.first_obeys
       × Throughout c e k.second o.second k.second_backed o.second_obeys
-  ThroughoutIn c (nextMove a) K L k o = Throughout c a k.first o.first k.first_backed o.first_obeys
+  ThroughoutIn c (next_move a) K L k o = Throughout c a k.first o.first k.first_backed o.first_obeys
   ThroughoutIn c (between t u a e) K L k o =
       Throughout c a k.first o.first k.first_backed o.first_obeys
       × Throughout c e k.second o.second k.second_backed o.second_obeys

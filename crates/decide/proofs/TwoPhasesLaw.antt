@@ -16,8 +16,9 @@ use Rattle.numbers.specs.Filled.{at, Filled, Table, filled_as}
 use Rattle.numbers.specs.Part.{rest, rest_at, rest_length}
 use Rattle.bounds.specs.Unit.{unit}
 use Rattle.bounds.specs.StepValues.{settled, StartedRounds, earlier_gap}
-use Rattle.bounds.specs.Found.{lower_found, upper_found, lower_between, upper_between, earlier_lower_found, gap_same, earlier_upper_found}
-use Rattle.bounds.specs.Found.{pair_lower, pair_upper, pair_range, pair_verdict, pair_depth}
+use Rattle.bounds.specs.Found.{lower_found, upper_found, lower_between, upper_between}
+use Rattle.bounds.proofs.Found.{earlier_lower_found, gap_same, earlier_upper_found}
+use Rattle.bounds.proofs.Found.{pair_lower, pair_upper, pair_range, pair_verdict, pair_depth}
 use Rattle.verdicts.specs.Byte.{verdict_at}
 use Rattle.vectors.specs.Places.{EndsStored}
 use Rattle.vectors.specs.Prepared.{ends_prepared}

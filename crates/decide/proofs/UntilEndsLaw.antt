@@ -12,7 +12,8 @@ use Rattle.numbers.specs.Filled.{at}
 use Rattle.numbers.specs.Part.{rest, rest_at}
 use Rattle.bounds.specs.Width.{most_depth}
 use Rattle.bounds.specs.StepValues.{Rounds}
-use Rattle.bounds.specs.Found.{lower_found, upper_found, lower_found_lem, upper_found_lem, ends_found}
+use Rattle.bounds.specs.Found.{lower_found, upper_found}
+use Rattle.bounds.proofs.Found.{lower_found_lem, upper_found_lem, ends_found}
 use Rattle.verdicts.specs.Byte.{verdict_at}
 use Rattle.rate_matrix.specs.Shown.{Shows, top_shown}
 use Rattle.vectors.specs.Places.{EndsStored}

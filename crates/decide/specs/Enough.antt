@@ -2,7 +2,7 @@
 use Rattle.std.specs.Prelude.{◌≡◌, refl, ℕ, zero, suc, ◌+◌, ◌*◌, ◌≤◌}
 use Rattle.std.proofs.Common.{arith, mul-le-mul_right}
 use Rattle.csl.specs.Limits.{most_levels, most_rows}
-use Rattle.csl.specs.Formula.{Formula, always, label, negated, both, chance, Path, until, nextMove, between, nodes, levels, levels_in}
+use Rattle.csl.specs.Formula.{Formula, always, label, negated, both, chance, Path, until, next_move, between, nodes, levels, levels_in}
 use Rattle.formula.specs.Stored.{levels_nodes}
 use Rattle.verdict_rows.specs.Row.{rows_length}
 use Rattle.decide.specs.Rows.{rows_for, rows_in}
@@ -20,7 +20,7 @@ mutual
 
   rows_in_some : (w : Path) → 1 ≤ rows_in w
   rows_in_some (until t a b) = omega (arith, rows_some a)
-  rows_in_some (nextMove a) = rows_some a
+  rows_in_some (next_move a) = rows_some a
   rows_in_some (between t u a b) = omega (arith, rows_some a)
 
 -- but no more than it has levels
@@ -36,7 +36,7 @@ mutual
 
   rows_in_levels : (w : Path) → rows_in w ≤ 1 + levels_in w
   rows_in_levels (until t a b) = omega (arith, rows_levels a, rows_levels b)
-  rows_in_levels (nextMove a) = omega (arith, rows_levels a)
+  rows_in_levels (next_move a) = omega (arith, rows_levels a)
   rows_in_levels (between t u a b) = omega (arith, rows_levels a, rows_levels b)
 
 -- so it has a level

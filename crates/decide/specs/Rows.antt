@@ -1,6 +1,6 @@
 -- The rows that a formula takes, those of a node's operands, and the row that is left. Assumes nothing.
 use Rattle.std.specs.Prelude.{◌≡◌, List, ℕ, ◌+◌, ◌<◌, max}
-use Rattle.csl.specs.Formula.{Formula, always, label, negated, both, chance, Path, until, nextMove, between}
+use Rattle.csl.specs.Formula.{Formula, always, label, negated, both, chance, Path, until, next_move, between}
 use Rattle.csl.specs.Verdicts.{Verdict}
 use Rattle.numbers.specs.Filled.{at, Table, Twin}
 use Rattle.verdicts.specs.Byte.{verdict_at}
@@ -18,7 +18,7 @@ unfoldable mutual
 
   pub rows_in : Path → ℕ
   rows_in (until t a b) = max (rows_for a) (1 + rows_for b)
-  rows_in (nextMove a) = rows_for a
+  rows_in (next_move a) = rows_for a
   rows_in (between t u a b) = max (rows_for a) (1 + rows_for b)
 
 -- how many rows a node's operands leave: the node's own, which its first operand takes, and one more for the second

@@ -6,7 +6,7 @@ use Rattle.std.proofs.Math.Option.{none, some}
 use Rattle.csl.specs.Text.{Text}
 use Rattle.csl.specs.Limits.{billion, width_factor}
 use Rattle.csl.specs.Moves.{rates_out}
-use Rattle.csl.specs.Formula.{Formula, chance, Path, until, nextMove, between, PathOf, two_phases, Comparison, nodes}
+use Rattle.csl.specs.Formula.{Formula, chance, Path, until, next_move, between, PathOf, two_phases, Comparison, nodes}
 use Rattle.csl.specs.Fraction.{Below, billionths}
 use Rattle.csl.specs.Chain.{Chain, exit_rate, top_rate, depth}
 use Rattle.csl.specs.Phase.{bit}
@@ -128,7 +128,7 @@ module _ (c : Chain) (r : Comparison) (p t : ℕ) (f g : Formula) (lower upper :
   decided_by_what_is_certain = (theorems.moves_decide_an_until c r p t f g lower upper v k i h s in_range).1
 
 module _ (c : Chain) (r : Comparison) (p : ℕ) (f : Formula) (lower upper : ℕ → ℕ) (v : ℕ → Verdict)
-    (k : Reported c (chance r p (nextMove f)) lower upper v) (i : AllDecided c k.first) (s : ℕ) (in_range : s < c.states) where
+    (k : Reported c (chance r p (next_move f)) lower upper v) (i : AllDecided c k.first) (s : ℕ) (in_range : s < c.states) where
   pub decided_by_a_move_that_enters : p ≡ 0 → ByPossible r (Enters c (least k.first) s) (v s)
   decided_by_a_move_that_enters = (theorems.moves_decide_a_next_move c r p f lower upper v k i s in_range).0
 
@@ -178,7 +178,7 @@ module _ (c : Chain) (r : Comparison) (p t : ℕ) (f g : Formula) (lower upper :
 -- and of a next move, with its fraction, its operand and its two ends named: "no reading puts the fraction outside the interval"; "with a decided
 -- operand the width is at most 1"
 module _ (c : Chain) (r : Comparison) (p : ℕ) (f : Formula) (lower upper : ℕ → ℕ) (v : ℕ → Verdict)
-    (k : Reported c (chance r p (nextMove f)) lower upper v) (s : ℕ) (in_range : s < c.states) where
+    (k : Reported c (chance r p (next_move f)) lower upper v) (s : ℕ) (in_range : s < c.states) where
   pub every_fraction_is_enclosed : (x : ℕ → Bool) → Reading c.states k.first x
       → Below (billionths (lower s)) (next_fraction c x s) × Below (next_fraction c x s) (billionths (upper s))
   every_fraction_is_enclosed x i = theorems.fractions_lie_in_the_interval c r p f lower upper v k x i s in_range
@@ -243,12 +243,12 @@ module _ (c : Chain) (r : Comparison) (p t : ℕ) (f g : Formula) (lower upper :
       (every_table_agrees c (chance r p (until t f g)) v (backing_of c (chance r p (until t f g)) lower upper v k) table o).1.1
 
 module _ (c : Chain) (r : Comparison) (p : ℕ) (f : Formula) (lower upper : ℕ → ℕ) (v : ℕ → Verdict)
-    (k : Reported c (chance r p (nextMove f)) lower upper v) (table : ℕ → Bool) (o : Obeys c (chance r p (nextMove f)) table) where
+    (k : Reported c (chance r p (next_move f)) lower upper v) (table : ℕ → Bool) (o : Obeys c (chance r p (next_move f)) table) where
   pub operand_agrees : Reading c.states k.first o.first
   unfolding Throughout ThroughoutIn backing_of
   operand_agrees =
       agrees_here c f k.first o.first k.first_backed o.first_obeys
-      (every_table_agrees c (chance r p (nextMove f)) v (backing_of c (chance r p (nextMove f)) lower upper v k) table o).1
+      (every_table_agrees c (chance r p (next_move f)) v (backing_of c (chance r p (next_move f)) lower upper v k) table o).1
 
 module _ (c : Chain) (r : Comparison) (p t u : ℕ) (f g : Formula) (lower upper : ℕ → ℕ) (v : ℕ → Verdict)
     (k : Reported c (chance r p (between t u f g)) lower upper v) (table : ℕ → Bool) (o : Obeys c (chance r p (between t u f g)) table) where

@@ -165,7 +165,7 @@ pub ruleset own_laws = (own_until, own_next, own_between, own_plain, own_chance)
 module _ (i n : ℕ) (h : i < most_nodes) where
   path_below : (c : Comparison) (p : ℕ) (w : csl.Path) → OperandsBefore most_nodes (kind.Chance c p (path_held i n w))
   path_below c p (csl.until t a b) = (omega arith, omega arith)
-  path_below c p (csl.nextMove a) = omega arith
+  path_below c p (csl.next_move a) = omega arith
   path_below c p (csl.between t u a b) = (omega arith, omega arith)
 
   held_below : (f : csl.Formula) → OperandsBefore most_nodes (kind_held [] i n f)

@@ -6,7 +6,7 @@ use mathlib.Core.List.{List, [], ◌∷◌, ◌++◌, head_d, tail}
 use lib.ListN.{length, drop, set, replicate, length-append}
 use Rattle.csl.specs.Text.{Text}
 use Rattle.csl.specs.Limits.{most_nodes}
-use Rattle.csl.specs.Formula.{Formula, always, label, negated, both, chance, until, nextMove, between, nodes, nodes_in}
+use Rattle.csl.specs.Formula.{Formula, always, label, negated, both, chance, until, next_move, between, nodes, nodes_in}
 use Rattle.csl.specs.Grammar.{Found, nothing, found, and_then, single, pair, Head, truth, name, bang, ampersand, chances, other, head_of, state, read_state}
 use Rattle.grammar.specs.Left.{Leaves, left, last_length}
 use Rattle.grammar.specs.Fixed.{read, read_next, read_leaves}
@@ -170,7 +170,7 @@ module _ (names : List Text) where
     chance-lays e p (bounded c l Next b) =
         let us = tail (behind_two ts) in
         let k : length us ≤ m = omega (arith, one_shorter (behind_two ts), two_shorter ts) in
-        single-lays m ih w ts us k (λ x. chance c l (nextMove x)) (λ x. refl) (λ x b. refl) (λ x j. rw (e, b hollow [])) (λ x j. refl)
+        single-lays m ih w ts us k (λ x. chance c l (next_move x)) (λ x. refl) (λ x b. refl) (λ x j. rw (e, b hollow [])) (λ x j. refl)
         (λ x j q. refl) f rest (sym (b read w) ∙ p)
     chance-lays e p (bounded c l (Until t) b) =
         let us = behind_two (behind_two ts) in

@@ -6,7 +6,7 @@ use mathlib.Core.List.{List}
 use lib.ListN.{length, take, drop, length-drop}
 use Rattle.csl.specs.Text.{Text}
 use Rattle.csl.specs.Line.{space}
-use Rattle.csl.specs.Formula.{Formula, negated, both, chance, until, nextMove, between, nodes, nodes_in, levels, levels_in, Comparison}
+use Rattle.csl.specs.Formula.{Formula, negated, both, chance, until, next_move, between, nodes, nodes_in, levels, levels_in, Comparison}
 use Rattle.csl.specs.Grammar.{Found, nothing, found, and_then, single, pair, path}
 use Rattle.grammar.specs.Left.{Leaves, none_read, left}
 use Rattle.grammar.specs.Fixed.{read, read_leaves}
@@ -74,7 +74,7 @@ not_counted : CountedOne negated
 unfolding nodes levels
 not_counted a = (refl, refl)
 
-next_counted : (c : Comparison) (p : ℕ) → CountedOne (λ a. chance c p (nextMove a))
+next_counted : (c : Comparison) (p : ℕ) → CountedOne (λ a. chance c p (next_move a))
 unfolding nodes nodes_in levels levels_in
 next_counted c p a = (refl, refl)
 
@@ -165,6 +165,6 @@ module _ (s : Text) (h : PathStart) (is : h ≡ path_start_of (tokens s)) where
   pub path_next : (u : Text) (r : Size) → h ≡ start.Next → u ≡ after_part space s → Singled u r → Pathed s r
   path_next u r e v q = (
     λ c p. rw (path_by_start, ← is, e, one_tail s u v)
-        (q.0 ∙ over_single negated not_counted (tokens u) ∙ sym (over_single (λ a. chance c p (nextMove a)) (next_counted c p) (tokens u))),
+        (q.0 ∙ over_single negated not_counted (tokens u) ∙ sym (over_single (λ a. chance c p (next_move a)) (next_counted c p) (tokens u))),
     fits_wider r _ _ q.1 (omega (arith, one_within s u v)),
   )

@@ -27,7 +27,7 @@ nodes_some (csl.chance r p w) = omega arith
 path_some : (w : csl.Path) → 1 ≤ nodes_in w
 unfolding nodes_in
 path_some (csl.until t a c) = omega (arith, nodes_some a)
-path_some (csl.nextMove a) = nodes_some a
+path_some (csl.next_move a) = nodes_some a
 path_some (csl.between t u a c) = omega (arith, nodes_some a)
 
 -- what a node of each kind keeps at its place
@@ -91,13 +91,13 @@ module _ (names : List Text) (P : ℕ → Kind → Type 0) (h : ByKind names P) 
 
     each_in : (w : csl.Path) (b : ℕ) → Stands ns (listed_in names w b) b → labels_pass_in (among names) w ≡ true → EachFrom b (nodes_in w)
     each_in (csl.until t a c) b i l = each_two a c b (λ k h m. each a k h m) (λ k h m. each c k h m) i l
-    each_in (csl.nextMove a) b i l = each a b i l
+    each_in (csl.next_move a) b i l = each a b i l
     each_in (csl.between t u a c) b i l = each_two a c b (λ k h m. each a k h m) (λ k h m. each c k h m) i l
 
 -- operands come before their node
 path_before : (c : Comparison) (p k n : ℕ) (w : csl.Path) → 1 ≤ k → OperandsBefore k (kind.Chance c p (path_held k n w))
 path_before c p k n (csl.until t x y) h = (omega arith, omega arith)
-path_before c p k n (csl.nextMove x) h = omega arith
+path_before c p k n (csl.next_move x) h = omega arith
 path_before c p k n (csl.between t u x y) h = (omega arith, omega arith)
 
 pub before_kept : (names : List Text) → ByKind names OperandsBefore

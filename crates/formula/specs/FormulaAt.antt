@@ -2,7 +2,7 @@
 use Rattle.std.specs.Prelude.{◌≡◌, ℕ, zero, suc, List, [], get_or}
 use Rattle.csl.specs.Text.{Text}
 use Rattle.csl.specs.Formula as csl
-use Rattle.csl.specs.Formula.{Formula, always, label, negated, both, chance, until, nextMove, between, PathOf, until_of, next_of, between_of, mapped}
+use Rattle.csl.specs.Formula.{Formula, always, label, negated, both, chance, until, next_move, between, PathOf, until_of, next_of, between_of, mapped}
 use Rattle.verdicts.specs.Paper.{comparison_of}
 use Rattle.formula.specs.Nodes.{kind_at, path_meant}
 use Rattle.formula.specs.declared.nodes.Kind.{Kind}
@@ -12,7 +12,7 @@ use Rattle.formula.specs.declared.nodes.Node.{Node}
 -- a path over formulas is a path formula
 abbrev pub path_over : PathOf Formula → csl.Path
 path_over (until_of t a b) = until t a b
-path_over (next_of a) = nextMove a
+path_over (next_of a) = next_move a
 path_over (between_of t u a b) = between t u a b
 
 -- a node's formula, where `look` has its operands': a label by the name at its place

@@ -5,7 +5,7 @@ use Rattle.csl.specs.Text.{Text}
 use Rattle.csl.specs.Limits.{most_nodes}
 use Rattle.csl.specs.Labels.{place_of}
 use Rattle.csl.specs.Formula as csl
-use Rattle.csl.specs.Formula.{Formula, always, label, negated, both, chance, until, nextMove, between, nodes, nodes_in}
+use Rattle.csl.specs.Formula.{Formula, always, label, negated, both, chance, until, next_move, between, nodes, nodes_in}
 use Rattle.verdicts.specs.declared.comparison.Comparison.{Comparison}
 use Rattle.verdicts.specs.declared.comparison.Comparison.TheVariants.{Less, AtMost, AtLeast, More}
 use Rattle.formula.specs.declared.nodes.Path.{Path}
@@ -26,7 +26,7 @@ held csl.More = More
 -- The outermost node of a formula, at place i; n are the nodes of its last operand, which stand right before it.
 abbrev pub path_held : ℕ → ℕ → csl.Path → Path
 path_held i n (until t a b) = path.Until t (i - suc n) (i - 1)
-path_held i n (nextMove a) = path.Next (i - 1)
+path_held i n (next_move a) = path.Next (i - 1)
 path_held i n (between t u a b) = path.Between t u (i - suc n) (i - 1)
 
 abbrev pub kind_held : List Text → ℕ → ℕ → Formula → Kind
@@ -39,7 +39,7 @@ kind_held names i n (chance r p w) = kind.Chance (held r) p (path_held i n w)
 -- how many nodes the last operand of a path formula has
 abbrev pub last_nodes : csl.Path → ℕ
 last_nodes (until t a b) = nodes b
-last_nodes (nextMove a) = nodes a
+last_nodes (next_move a) = nodes a
 last_nodes (between t u a b) = nodes b
 
 -- its nodes, from place b on, and those of a path formula's operands
@@ -54,7 +54,7 @@ unfoldable mutual
 
   pub listed_in : List Text → csl.Path → ℕ → List Node
   listed_in names (until t a c) b = listed names a b ++ listed names c (b + nodes a)
-  listed_in names (nextMove a) b = listed names a b
+  listed_in names (next_move a) b = listed names a b
   listed_in names (between t u a c) b = listed names a b ++ listed names c (b + nodes a)
 
 -- the row of a formula of at most 64 nodes

@@ -65,6 +65,6 @@ module _ (names : List Text) (ns : List Node) where
         → path_over (mapped (formula_at names d ns) (path_meant (path_held (b + nodes_in w) (last_nodes w) w))) ≡ w
     path-back (csl.until t a c) d b h n l =
         let e = two_back a c d b (λ k i m j. read_back a d k i m j) (λ k i m j. read_back c d k i m j) h n l in rw (e.0, e.1)
-    path-back (csl.nextMove a) d b h n l = rw (read_back a d b h n l)
+    path-back (csl.next_move a) d b h n l = rw (read_back a d b h n l)
     path-back (csl.between t u a c) d b h n l =
         let e = two_back a c d b (λ k i m j. read_back a d k i m j) (λ k i m j. read_back c d k i m j) h n l in rw (e.0, e.1)

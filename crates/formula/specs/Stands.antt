@@ -55,7 +55,7 @@ module _ (names : List Text) where
 
     pub length_in : (w : csl.Path) (b : ℕ) → length (listed_in names w b) ≡ nodes_in w
     length_in (csl.until t a c) b = simp (length-append, length_listed a b, length_listed c (b + nodes a))
-    length_in (csl.nextMove a) b = length_listed a b
+    length_in (csl.next_move a) b = length_listed a b
     length_in (csl.between t u a c) b = simp (length-append, length_listed a b, length_listed c (b + nodes a))
 
   module _ (ns : List Node) where

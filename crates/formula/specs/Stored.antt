@@ -43,7 +43,7 @@ mutual
 
   levels_in_lem : (w : csl.Path) → levels_in w ≤ nodes_in w
   levels_in_lem (csl.until t a b) = omega (arith, levels_nodes a, levels_nodes b)
-  levels_in_lem (csl.nextMove a) = levels_nodes a
+  levels_in_lem (csl.next_move a) = levels_nodes a
   levels_in_lem (csl.between t u a b) = omega (arith, levels_nodes a, levels_nodes b)
 
 module _ (names : List Text) (f : Formula) where

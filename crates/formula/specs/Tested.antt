@@ -25,7 +25,7 @@ unfoldable mutual
 
   pub tree_pass_in : (Text → Bool) → (ℕ → PathOf Formula → Bool) → csl.Path → Bool
   tree_pass_in name bound (csl.until t a c) = tree_pass name bound a && tree_pass name bound c
-  tree_pass_in name bound (csl.nextMove a) = tree_pass name bound a
+  tree_pass_in name bound (csl.next_move a) = tree_pass name bound a
   tree_pass_in name bound (csl.between t u a c) = tree_pass name bound a && tree_pass name bound c
 
 mutual
@@ -40,7 +40,7 @@ mutual
 
   labels_in : (name : Text → Bool) (w : csl.Path) → tree_pass_in name (λ p o. true) w ≡ labels_pass_in name w
   labels_in name (csl.until t a c) = rw (labels_tree name a, labels_tree name c)
-  labels_in name (csl.nextMove a) = labels_tree name a
+  labels_in name (csl.next_move a) = labels_tree name a
   labels_in name (csl.between t u a c) = rw (labels_tree name a, labels_tree name c)
 
 mutual
@@ -55,7 +55,7 @@ mutual
 
   paths_in : (bound : ℕ → PathOf Formula → Bool) (w : csl.Path) → tree_pass_in (λ w. true) bound w ≡ paths_pass_in bound w
   paths_in bound (csl.until t a c) = rw (paths_tree bound a, paths_tree bound c)
-  paths_in bound (csl.nextMove a) = paths_tree bound a
+  paths_in bound (csl.next_move a) = paths_tree bound a
   paths_in bound (csl.between t u a c) = rw (paths_tree bound a, paths_tree bound c)
 
 -- the test of a path looks at its hours and not at its operands
@@ -70,7 +70,7 @@ same_times o x NoSearch p h k m n = rw (h, m)
 
 path_tested : (test : Test) (p i n : ℕ) (w : csl.Path) → path_passes test p (path_meant (path_held i n w)) ≡ path_passes test p (path_of w)
 path_tested test p i n (csl.until t a c) = same_times _ _ test p (λ f. refl) (λ f. refl) refl refl
-path_tested test p i n (csl.nextMove a) = same_times _ _ test p (λ f. refl) (λ f. refl) refl refl
+path_tested test p i n (csl.next_move a) = same_times _ _ test p (λ f. refl) (λ f. refl) refl refl
 path_tested test p i n (csl.between zero u a c) = same_times _ _ test p (λ f. refl) (λ f. refl) refl refl
 path_tested test p i n (csl.between (suc t) u a c) = same_times _ _ test p (λ f. refl) (λ f. refl) refl refl
 
@@ -116,5 +116,5 @@ module _ (names : List Text) (test : Test) (ns : List Node) where
 
     tests-in : (w : csl.Path) (b : ℕ) → Stands ns (listed_in names w b) b → upto (b + nodes_in w) ≡ upto b && pass_in w
     tests-in (csl.until t a c) b h = two_pass a c b (λ k i. tests_tree a k i) (λ k i. tests_tree c k i) h
-    tests-in (csl.nextMove a) b h = tests_tree a b h
+    tests-in (csl.next_move a) b h = tests_tree a b h
     tests-in (csl.between t u a c) b h = two_pass a c b (λ k i. tests_tree a k i) (λ k i. tests_tree c k i) h

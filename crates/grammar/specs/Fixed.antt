@@ -8,8 +8,8 @@ use Rattle.std.proofs.Math.Option.{Option, none, some}
 use Rattle.csl.specs.Text.{Text, same, every}
 use Rattle.csl.specs.Labels.{is_word}
 use Rattle.csl.specs.Hours.{hundredths_of}
-use Rattle.csl.specs.Formula.{Formula, negated, both, chance, until, nextMove, between, Comparison}
-use Rattle.csl.specs.Grammar.{Found, nothing, found, Reader, and_then, comparison_of, number_of, on_token, single, pair, PathHead, untils, nexts, betweens, noPath, path_head_of, path_behind, path, Head, truth, name, bang, ampersand, chances, other, head_of, state, read_state}
+use Rattle.csl.specs.Formula.{Formula, negated, both, chance, until, next_move, between, Comparison}
+use Rattle.csl.specs.Grammar.{Found, nothing, found, Reader, and_then, comparison_of, number_of, on_token, single, pair, PathHead, untils, nexts, betweens, no_path, path_head_of, path_behind, path, Head, truth, name, bang, ampersand, chances, other, head_of, state, read_state}
 use Rattle.grammar.specs.Left.{Leaves, none_read, left, Steady, steps_leave, last_length}
 
 -- a state formula at the head of the tokens, as csl reads it
@@ -49,11 +49,11 @@ module _ (n : ℕ) (r s : Reader) (agree : Agree n r s) (steady : Steady s) wher
   unfolding path_behind
   path_behind_agrees c p untils ts l =
       token_agrees hundredths_of ts _ _ λ t rest k. pair_agrees (λ a b. chance c p (until t a b)) rest (omega arith)
-  path_behind_agrees c p nexts ts l = single_agrees (λ a. chance c p (nextMove a)) ts l
+  path_behind_agrees c p nexts ts l = single_agrees (λ a. chance c p (next_move a)) ts l
   path_behind_agrees c p betweens ts l =
       token_agrees hundredths_of ts _ _ λ t more k. token_agrees hundredths_of more _ _ λ u rest m.
       pair_agrees (λ a b. chance c p (between t u a b)) rest (omega arith)
-  path_behind_agrees c p noPath ts l = refl
+  path_behind_agrees c p no_path ts l = refl
 
   path_agrees : (c : Comparison) (p : ℕ) → Agree n (path r c p) (path s c p)
   unfolding path

@@ -5,8 +5,8 @@ use mathlib.Core.List.{List, [], ◌∷◌}
 use Rattle.std.proofs.Math.Option.{Option, none, some}
 use Rattle.csl.specs.Text.{Text}
 use Rattle.csl.specs.Hours.{hundredths_of}
-use Rattle.csl.specs.Formula.{Formula, negated, both, chance, until, nextMove, between, Comparison}
-use Rattle.csl.specs.Grammar.{Found, nothing, found, Reader, and_then, comparison_of, number_of, on_token, single, pair, PathHead, untils, nexts, betweens, noPath, path_head_of, path_behind, path, Head, truth, name, bang, ampersand, chances, other, head_of, state, read_state}
+use Rattle.csl.specs.Formula.{Formula, negated, both, chance, until, next_move, between, Comparison}
+use Rattle.csl.specs.Grammar.{Found, nothing, found, Reader, and_then, comparison_of, number_of, on_token, single, pair, PathHead, untils, nexts, betweens, no_path, path_head_of, path_behind, path, Head, truth, name, bang, ampersand, chances, other, head_of, state, read_state}
 
 -- the last of the tokens ts
 pub record Last (ts rest : List Text) : Type 0 where
@@ -68,10 +68,10 @@ module _ (read : Reader) (steady : Steady read) where
   path_behind_leaves : (r : Comparison) (p : ℕ) (h : PathHead) → Steady (path_behind read r p h)
   unfolding path_behind
   path_behind_leaves r p untils ts = token_leaves hundredths_of ts _ λ t rest. pair_leaves (λ a b. chance r p (until t a b)) rest
-  path_behind_leaves r p nexts ts = single_leaves (λ a. chance r p (nextMove a)) ts
+  path_behind_leaves r p nexts ts = single_leaves (λ a. chance r p (next_move a)) ts
   path_behind_leaves r p betweens ts =
       token_leaves hundredths_of ts _ λ t more. token_leaves hundredths_of more _ λ u rest. pair_leaves (λ a b. chance r p (between t u a b)) rest
-  path_behind_leaves r p noPath ts = none_read
+  path_behind_leaves r p no_path ts = none_read
 
   pub path_leaves : (r : Comparison) (p : ℕ) → Steady (path read r p)
   unfolding path

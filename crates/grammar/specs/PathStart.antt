@@ -5,8 +5,8 @@ use mathlib.Core.List.{List, [], head_d, tail}
 use Rattle.std.proofs.Math.Option.{Option, none, some}
 use Rattle.csl.specs.Text.{Text}
 use Rattle.csl.specs.Hours.{hundredths_of}
-use Rattle.csl.specs.Formula.{chance, until, nextMove, between, Comparison}
-use Rattle.csl.specs.Grammar.{Found, nothing, Reader, single, pair, PathHead, untils, nexts, betweens, noPath, path_head_of, path_behind, path}
+use Rattle.csl.specs.Formula.{chance, until, next_move, between, Comparison}
+use Rattle.csl.specs.Grammar.{Found, nothing, Reader, single, pair, PathHead, untils, nexts, betweens, no_path, path_head_of, path_behind, path}
 use Rattle.grammar.specs.Then.{hours_by, path_then}
 use Rattle.grammar.specs.declared.path_start.PathStart.{PathStart}
 use Rattle.grammar.specs.declared.path_start.PathStart.TheVariants.{Until, Next, Between, Missing}
@@ -37,7 +37,7 @@ abbrev head_start : PathHead → List Text → PathStart
 head_start untils ts = until_start ts
 head_start nexts ts = Next
 head_start betweens ts = between_start ts
-head_start noPath ts = Missing
+head_start no_path ts = Missing
 
 unfoldable pub path_start_of : List Text → PathStart
 path_start_of ts = head_start (path_head_of (head_d ts [])) (tail ts)
@@ -52,7 +52,7 @@ behind_start Missing ts = ts
 -- what csl's reader finds there: two state formulas, or one
 abbrev pub start_then : PathStart → Reader → Comparison → ℕ → Reader
 start_then (Until t) read r p ts = pair read (λ a b. chance r p (until t a b)) ts
-start_then Next read r p ts = single read (λ a. chance r p (nextMove a)) ts
+start_then Next read r p ts = single read (λ a. chance r p (next_move a)) ts
 start_then (Between t u) read r p ts = pair read (λ a b. chance r p (between t u a b)) ts
 start_then Missing read r p ts = nothing
 
@@ -70,4 +70,4 @@ path_by_start read r p ts = path_then read r p ts ∙ by-head (path_head_of (hea
     by-head betweens =
         hours_by (tail ts) _ (λ o. after (times_start o (hours_at (tail (tail ts))))) refl
         λ t. hours_by (tail (tail ts)) _ (λ o. after (times_start (some t) o)) refl (λ u. refl)
-    by-head noPath = refl
+    by-head no_path = refl

@@ -8,7 +8,7 @@ use lib.Dec.{leb}
 use borrow.Author.Tests.{leb-true, le-ltb}
 use Rattle.csl.specs.Text.{any}
 use Rattle.csl.specs.Limits.{billion, most_rate_hundredths}
-use Rattle.csl.specs.Formula.{Formula, always, label, negated, both, chance, Path, until, nextMove, between, path_of, Comparison, nodes, phases_pass, paths_pass}
+use Rattle.csl.specs.Formula.{Formula, always, label, negated, both, chance, Path, until, next_move, between, path_of, Comparison, nodes, phases_pass, paths_pass}
 use Rattle.csl.specs.Chain.{Chain, top_rate, load, depth}
 use Rattle.csl.specs.Path.{meaning}
 use Rattle.csl.specs.Backing.{PathBacked, ChanceKeeps}
@@ -45,7 +45,7 @@ depth_low c t h = omega arith
 -- that of a path: of one phase, or of two
 path_within : (c : Chain) (w : Path) → phases_pass (λ t. leb (top_rate c * t) most_rate_hundredths) (path_of w) ≡ true → (meaning c (path_of w)).depth ≤ 336
 path_within c (until t a b) h = omega (arith, depth_low c t (leb-true (top_rate c * t) most_rate_hundredths h))
-path_within c (nextMove a) h = omega arith
+path_within c (next_move a) h = omega arith
 path_within c (between zero u a b) h = omega (arith, depth_low c u (leb-true (top_rate c * u) most_rate_hundredths h))
 path_within c (between (suc t) u a b) h =
     let k = (and-eq-true_iff (leb (top_rate c * suc t) most_rate_hundredths) (leb (top_rate c * (u - suc t)) most_rate_hundredths)).0 h in

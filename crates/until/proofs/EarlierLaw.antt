@@ -9,7 +9,8 @@ use Rattle.csl.specs.Limits.{billion}
 use Rattle.csl.specs.Verdicts.{No}
 use Rattle.csl.proofs.Laws.Decided.{all_decided, decided_all}
 use Rattle.bounds.specs.Unit.{unit}
-use Rattle.bounds.specs.StepValues.{verdict_at, pointed, started_phase, earlier_gap}
+use Rattle.bounds.specs.StepValues.{pointed, started_phase, earlier_gap}
+use Rattle.bounds.proofs.StepValues.{verdict_at}
 use Rattle.vectors.specs.Places.{at}
 use Rattle.phase.specs.Load.{load_depth}
 use Rattle.phase.specs.Value.{held_of}

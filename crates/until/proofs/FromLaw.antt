@@ -7,8 +7,9 @@ use lib.Dec.{leb}
 use lib.ListN.{length}
 use Rattle.csl.specs.Limits.{billion, rate_hundredths}
 use Rattle.bounds.specs.Unit.{unit}
-use Rattle.bounds.specs.Ends.{end_same}
-use Rattle.bounds.specs.Upper.{upper_end, left_same}
+use Rattle.bounds.proofs.Ends.{end_same}
+use Rattle.bounds.specs.Upper.{upper_end}
+use Rattle.bounds.proofs.Upper.{left_same}
 use Rattle.bounds.specs.StepValues.{most_gap, near_upper, pointed}
 use Rattle.rate_matrix.specs.Words.{to_of}
 use Rattle.phase.specs.Value.{held_of, run_of}

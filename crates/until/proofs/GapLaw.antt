@@ -14,7 +14,8 @@ use Rattle.csl.specs.Verdicts.{Decided}
 use Rattle.csl.proofs.Laws.Decided.{all_decided, all_decided_lem, decided_all}
 use Rattle.numbers.specs.Sum.{greatest_cong, greatest_most}
 use Rattle.bounds.specs.Unit.{unit}
-use Rattle.bounds.specs.StepValues.{verdict_at, most_gap, gap_of}
+use Rattle.bounds.specs.StepValues.{most_gap, gap_of}
+use Rattle.bounds.proofs.StepValues.{verdict_at}
 use Rattle.vectors.specs.Places.{at}
 use Rattle.until.specs.Reading.{verdicts}
 use Rattle.until.specs.Asked.{EndsAsked, start_gap, error_of}

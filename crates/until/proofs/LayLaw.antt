@@ -10,7 +10,7 @@ use mir.Val.{Fits}
 use mir.Syntax.{w64}
 use Rattle.numbers.specs.Filled.{Twin, twin_none, twin_more, twin_done}
 use Rattle.bounds.specs.Unit.{unit}
-use Rattle.bounds.specs.StepValues.{verdict_at}
+use Rattle.bounds.proofs.StepValues.{verdict_at}
 use Rattle.vectors.specs.Places.{at, exit_at}
 use Rattle.phase.specs.Value.{held_of, stay_of}
 use Rattle.until.specs.Reading.{read_as, read_phase, end_of}

@@ -11,7 +11,8 @@ use Rattle.numbers.specs.Hint.{mul_bound}
 use Rattle.bounds.specs.Unit.{unit}
 use Rattle.bounds.specs.Weight.{peak, low, Middle, low_most}
 use Rattle.bounds.specs.Last.{last_from, last_same}
-use Rattle.bounds.specs.Ends.{total, negligible, last_step, last_step_within, lower_end, gathered_most, total_most, total_peak}
+use Rattle.bounds.specs.Ends.{total, negligible, last_step, lower_end}
+use Rattle.bounds.proofs.Ends.{last_step_within, gathered_most, total_most, total_peak}
 use Rattle.bounds.specs.Upper.{left_end}
 use Rattle.weights.specs.Asked.{most_steps}
 use Rattle.vectors.specs.Places.{at, weights_from, weight_at, total_in}

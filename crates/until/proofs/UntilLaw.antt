@@ -11,7 +11,7 @@ use Rattle.csl.specs.Phase.{bit}
 use Rattle.csl.specs.Report as report
 use Rattle.csl.specs.Verdicts.{Verdict, No, Yes, Undecided, as_no, as_yes}
 use Rattle.csl.proofs.Laws.Verdicts.{decided_same}
-use Rattle.bounds.specs.Reading.{bit_most}
+use Rattle.bounds.proofs.Reading.{bit_most}
 use Rattle.bounds.specs.StepValues.{most_gap, pointed}
 use Rattle.phase.specs.Load.{load_depth}
 use Rattle.phase.specs.Value.{held_of, start_of, value_of}

@@ -8,9 +8,11 @@ use Rattle.csl.specs.Phase.{Phase}
 use Rattle.csl.proofs.Laws.Steps.{Starts}
 use Rattle.bounds.specs.Weight.{peak, low}
 use Rattle.bounds.specs.Unit.{one, scale, part}
-use Rattle.bounds.specs.Ends.{total, last_step, last_step_within, lower_end}
+use Rattle.bounds.specs.Ends.{total, last_step, lower_end}
+use Rattle.bounds.proofs.Ends.{last_step_within}
 use Rattle.bounds.specs.Upper.{left_end}
-use Rattle.bounds.specs.PhaseEnd.{PhaseEnds, phase_ends}
+use Rattle.bounds.specs.PhaseEnd.{PhaseEnds}
+use Rattle.bounds.proofs.PhaseEnd.{phase_ends}
 use Rattle.rate_matrix.specs.Words.{top_of}
 use Rattle.rate_matrix.specs.Shown.{Shows, top_shown}
 use Rattle.weights.specs.Asked.{most_steps}

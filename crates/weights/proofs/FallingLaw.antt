@@ -12,7 +12,7 @@ use Rattle.numbers.specs.Hint.{le_times}
 use Rattle.numbers.specs.Filled.{at, Filled}
 use Rattle.bounds.specs.Ladder.{ladder}
 use Rattle.bounds.specs.Weight.{peak, down, low, low_most}
-use Rattle.bounds.specs.Ends.{low_peak}
+use Rattle.bounds.proofs.Ends.{low_peak}
 use Rattle.weights.specs.Asked.{Half, Fall}
 use Rattle.weights.proofs.Span.{Span, span_more}
 

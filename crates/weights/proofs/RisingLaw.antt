@@ -8,7 +8,7 @@ use lib.ListN.{length, set}
 use Rattle.numbers.specs.Hint.{mul_bound, le_times}
 use Rattle.numbers.specs.Filled.{at, Filled, filled_more}
 use Rattle.bounds.specs.Weight.{low, low_most}
-use Rattle.bounds.specs.Width.{low_next}
+use Rattle.bounds.proofs.Width.{low_next}
 use Rattle.weights.specs.Asked.{Rest, Rise}
 
 pub record Inv (l₀ l : List ℕ) (p m d a b k : ℕ) : Type 0 where

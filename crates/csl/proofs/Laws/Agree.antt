@@ -1,7 +1,7 @@
 -- Every truth table that obeys CSL's rules agrees with every backing, given that for one `P`. Assumes nothing.
 use Rattle.std.specs.Prelude.{◌≡◌, refl, Bool, true, false, not, ◌&&◌, ℕ}
 use Rattle.std.proofs.Math.Bool.{and-false}
-use Rattle.csl.specs.Formula.{Comparison, Formula, always, label, negated, both, chance, Path, until, nextMove, between, PathOf}
+use Rattle.csl.specs.Formula.{Comparison, Formula, always, label, negated, both, chance, Path, until, next_move, between, PathOf}
 use Rattle.csl.specs.Chain.{Chain}
 use Rattle.csl.specs.Verdicts.{Verdict, No, Yes, Undecided, marked, negation, conjunction, Agrees, Reading}
 use Rattle.csl.specs.Path.{Reads, reads_until, reads_next, reads_between}
@@ -72,7 +72,7 @@ module _ (c : Chain) (one : ChanceAgrees c) where
           kept = k.keeps;
           obeyed = o.entry;
         }
-    met (nextMove a) r p lower upper v b k o =
+    met (next_move a) r p lower upper v b k o =
         record {
           verdicts = _;
           entries = _;

@@ -4,7 +4,7 @@ use Rattle.std.proofs.Common.{ap, ◌∙◌, arith}
 use Rattle.std.proofs.lemmas.Bool.{false≢true}
 use Rattle.csl.specs.Text.{Text, bytes}
 use Rattle.csl.specs.Limits.{billion}
-use Rattle.csl.specs.Formula.{label, chance, until, nextMove, Less, AtMost, AtLeast, More}
+use Rattle.csl.specs.Formula.{label, chance, until, next_move, Less, AtMost, AtLeast, More}
 use Rattle.csl.specs.Chain.{Chain}
 use Rattle.csl.specs.Verdicts.{Verdict, No, Yes, Undecided, marked, negation, as_no, least}
 use Rattle.csl.specs.Graph.{Leads, UntilPossible, Enters, EntersOnly, Tells, AllDecided}
@@ -68,7 +68,7 @@ module _ (c : Chain) (x y : Text) (lower upper : ℕ → ℕ) (v : ℕ → Verdi
   marks_are_decided : AllDecided c marks
   marks_are_decided = marks_decided c marks (c.mark x) (λ u m. refl)
 
-  not_entering : Reported c (chance AtMost 0 (nextMove (label x))) lower upper v → v s ≡ negation (marked (ltb 0 (next_upper c marks s)))
+  not_entering : Reported c (chance AtMost 0 (next_move (label x))) lower upper v → v s ≡ negation (marked (ltb 0 (next_upper c marks s)))
   not_entering k =
       let same : SameOn c (least k.first) (least marks) = λ u m. ap as_no (k.first_backed u m) in
       opposite_told (Enters c (least marks) s) (v s) (marked (ltb 0 (next_upper c marks s)))
@@ -77,7 +77,7 @@ module _ (c : Chain) (x y : Text) (lower upper : ℕ → ℕ) (v : ℕ → Verdi
       ((k.keeps.verdict s l).at_0 (marks_decided c k.first (c.mark x) k.first_backed) refl))
       (upper_tells c marks s marks_are_decided)
 
-  not_all_entering : Reported c (chance Less billion (nextMove (label x))) lower upper v → v s ≡ negation (marked (eqb (next_lower c marks s) billion))
+  not_all_entering : Reported c (chance Less billion (next_move (label x))) lower upper v → v s ≡ negation (marked (eqb (next_lower c marks s) billion))
   not_all_entering k =
       let same : SameOn c (least k.first) (least marks) = λ u m. ap as_no (k.first_backed u m) in
       opposite_told (EntersOnly c (least marks) s) (v s) (marked (eqb (next_lower c marks s) billion))

@@ -3,7 +3,7 @@ use Rattle.std.specs.Prelude.{◌≡◌, refl, true, false, ℕ, ◌*◌, ◌<�
 use Rattle.std.proofs.Common.{ap, ◌∙◌, arith}
 use Rattle.csl.specs.Text.{Text, bytes}
 use Rattle.csl.specs.Limits.{billion, hour}
-use Rattle.csl.specs.Formula.{label, chance, nextMove, Comparison, Less, AtLeast}
+use Rattle.csl.specs.Formula.{label, chance, next_move, Comparison, Less, AtLeast}
 use Rattle.csl.specs.Fraction.{Fraction, in_billionths, round_down, round_up}
 use Rattle.csl.specs.Chain.{Chain}
 use Rattle.csl.specs.Verdicts.{Verdict, No, Yes, Undecided, judged, as_no, as_yes, least, most}
@@ -26,7 +26,7 @@ same_up x y e = rw (e.0, e.1) refl
 
 -- the ends of an `X` over a label are its fraction, with the marks for a reading, rounded down and up
 next_row : (c : Chain) (r : Comparison) (p : ℕ) (x : Text) (lower upper : ℕ → ℕ) (v : ℕ → Verdict)
-    → Reported c (chance r p (nextMove (label x))) lower upper v → (s : ℕ) → s < c.states
+    → Reported c (chance r p (next_move (label x))) lower upper v → (s : ℕ) → s < c.states
     → (a b : ℕ) → round_down (in_billionths (next_fraction c (c.mark x) s)) ≡ a → round_up (in_billionths (next_fraction c (c.mark x) s)) ≡ b
     → 0 < p → p < billion → Row lower upper v s a b (judged r p a b)
 next_row c r p x lower upper v k s l a b e f i j =

@@ -8,8 +8,8 @@ use Rattle.std.proofs.Math.Option.{Option, none, some, none-ne-some, some-inject
 use Rattle.csl.specs.Text.{Text, bytes, same}
 use Rattle.csl.specs.Labels.{is_word}
 use Rattle.csl.specs.Hours.{hundredths_of}
-use Rattle.csl.specs.Formula.{Formula, always, label, negated, both, chance, until, nextMove, between, Comparison}
-use Rattle.csl.specs.Grammar.{Found, nothing, found, Reader, and_then, comparison_of, number_of, on_token, single, pair, PathHead, untils, nexts, betweens, noPath, path_head_of, path_behind, path, Head, truth, name, bang, ampersand, chances, other, head_of, state, read_state, whole, Spells, spells_truth, spells_name, spells_not, spells_both, spells_until, spells_next, spells_between}
+use Rattle.csl.specs.Formula.{Formula, always, label, negated, both, chance, until, next_move, between, Comparison}
+use Rattle.csl.specs.Grammar.{Found, nothing, found, Reader, and_then, comparison_of, number_of, on_token, single, pair, PathHead, untils, nexts, betweens, no_path, path_head_of, path_behind, path, Head, truth, name, bang, ampersand, chances, other, head_of, state, read_state, whole, Spells, spells_truth, spells_name, spells_not, spells_both, spells_until, spells_next, spells_between}
 use Rattle.csl.proofs.Laws.Computing.{computing}
 
 -- what is found has been found before
@@ -87,14 +87,14 @@ unfoldable PathHeadIs : Text → PathHead → Type 0
 PathHeadIs w untils = w ≡ bytes "U"
 PathHeadIs w nexts = w ≡ bytes "X"
 PathHeadIs w betweens = w ≡ bytes "V"
-PathHeadIs w noPath = Unit {0}
+PathHeadIs w no_path = Unit {0}
 
 path_head_is : (w : Text) → PathHeadIs w (path_head_of w)
 unfolding path_head_of PathHeadIs
 path_head_is w = go (same w (bytes "U")) (same w (bytes "X")) (same w (bytes "V")) refl refl refl
   where
     go : (a b c : Bool) → same w (bytes "U") ≡ a → same w (bytes "X") ≡ b → same w (bytes "V") ≡ c
-        → PathHeadIs w (cond a untils (cond b nexts (cond c betweens noPath)))
+        → PathHeadIs w (cond a untils (cond b nexts (cond c betweens no_path)))
     go true b c h i j = same_true _ _ h
     go false true c h i j = same_true _ _ i
     go false false true h i j = same_true _ _ j
@@ -183,7 +183,7 @@ path_behind_sound read sound sign threshold r v w untils u ts f rest e i h =
           ∙ ap (λ (l : List Text). bytes "P" ∷ sign ∷ threshold ∷ bytes "U" ∷ l) (n.tokens ∙ ap (λ (l : List Text). n.token ∷ l) p.split);
     }
 path_behind_sound read sound sign threshold r v w nexts u ts f rest e i h =
-    let p = single_sound read sound (λ a. chance r v (nextMove a)) ts f rest h in
+    let p = single_sound read sound (λ a. chance r v (next_move a)) ts f rest h in
     record {
       tokens = bytes "P" ∷ sign ∷ threshold ∷ bytes "X" ∷ p.s;
       spells = subst (λ x. Spells x (bytes "P" ∷ sign ∷ threshold ∷ bytes "X" ∷ p.s)) p.is (spells_next sign threshold r v e i p.first);
@@ -202,7 +202,7 @@ path_behind_sound read sound sign threshold r v w betweens u ts f rest e i h =
           ∙ ap (λ (l : List Text). bytes "P" ∷ sign ∷ threshold ∷ bytes "V" ∷ l)
           (n.tokens ∙ ap (λ (l : List Text). n.token ∷ l) (m.tokens ∙ ap (λ (l : List Text). m.token ∷ l) p.split));
     }
-path_behind_sound read sound sign threshold r v w noPath u ts f rest e i h = nothing_found f rest h
+path_behind_sound read sound sign threshold r v w no_path u ts f rest e i h = nothing_found f rest h
 
 path_sound : (read : Reader) → Sound read → (sign threshold : Text) (r : Comparison) (v : ℕ) (ts : List Text) (f : Formula) (rest : List Text)
     → comparison_of sign ≡ some r → number_of threshold ≡ some v → path read r v ts ≡ found f rest
@@ -301,11 +301,11 @@ until_complete read a b s t sign threshold hours r v u e i j h k rest =
 
 next_complete : (read : Reader) (a : Formula) (s : List Text) (sign threshold : Text) (r : Comparison) (v : ℕ)
     → comparison_of sign ≡ some r → number_of threshold ≡ some v → Complete read a s → (rest : List Text)
-    → state read (bytes "P") chances (sign ∷ threshold ∷ bytes "X" ∷ (s ++ rest)) ≡ found (chance r v (nextMove a)) rest
+    → state read (bytes "P") chances (sign ∷ threshold ∷ bytes "X" ∷ (s ++ rest)) ≡ found (chance r v (next_move a)) rest
 unfolding state path_behind
 next_complete read a s sign threshold r v e i h rest =
     spelled_token comparison_of sign _ _ r e ∙ spelled_token number_of threshold _ _ v i ∙ headed_path read r v (bytes "X") nexts _ path_heads.1
-    ∙ single_complete read (λ a. chance r v (nextMove a)) a s h rest
+    ∙ single_complete read (λ a. chance r v (next_move a)) a s h rest
 
 between_complete : (read : Reader) (a b : Formula) (s t : List Text) (sign threshold earlier later : Text) (r : Comparison) (v u x : ℕ)
     → comparison_of sign ≡ some r → number_of threshold ≡ some v → hundredths_of earlier ≡ some u → hundredths_of later ≡ some x

@@ -1,6 +1,6 @@
 -- Every truth table that obeys CSL's rules agrees with every backing, and a backing with nothing undecided is such a table. Assumes nothing.
 use Rattle.std.specs.Prelude.{Bool, ℕ, ◌<◌}
-use Rattle.csl.specs.Formula.{Comparison, Formula, always, label, negated, both, chance, Path, until, nextMove, between, PathOf, until_of, next_of, between_of, mapped}
+use Rattle.csl.specs.Formula.{Comparison, Formula, always, label, negated, both, chance, Path, until, next_move, between, PathOf, until_of, next_of, between_of, mapped}
 use Rattle.csl.specs.Chain.{Chain}
 use Rattle.csl.specs.Verdicts.{Verdict, Reading, as_no, least}
 use Rattle.csl.specs.Path.{AllDecided, value_at, Reads}
@@ -77,7 +77,7 @@ mutual
         second_obeys = verdicts_obey c e _ k.second_backed d.1;
         entry = chance_obeys c r p lower upper v (until_of t k.first k.second) k.keeps i;
       }
-  path_obeys c (nextMove a) r p lower upper v k i d =
+  path_obeys c (next_move a) r p lower upper v k i d =
       record {
         first = λ s. as_no (k.first s);
         first_obeys = verdicts_obey c a _ k.first_backed d;

@@ -1,7 +1,7 @@
 -- At every node: tables agree, and the rule of sides holds; and two backings never stand against each other. Assumes nothing.
 use Rattle.std.specs.Prelude.{refl, Bool, true, false, not, ◌&&◌, ◌||◌, ℕ}
 use Rattle.std.proofs.Common.{sym, ◌∙◌}
-use Rattle.csl.specs.Formula.{Comparison, Formula, always, label, negated, both, chance, Path, until, nextMove, between, PathOf, until_of, next_of, between_of}
+use Rattle.csl.specs.Formula.{Comparison, Formula, always, label, negated, both, chance, Path, until, next_move, between, PathOf, until_of, next_of, between_of}
 use Rattle.csl.specs.Chain.{Chain}
 use Rattle.csl.specs.Limit.{Value}
 use Rattle.csl.specs.Verdicts.{Verdict, No, Yes, Undecided, Agrees, Reading, as_no}
@@ -36,7 +36,7 @@ mutual
       → ThroughoutIn c w (ChanceKeeps c r p lower upper v) (ChanceObeys c r p b) k o
   throughout_in c (until t a e) r p lower upper v b k o =
       (throughout c a _ _ k.first_backed o.first_obeys, throughout c e _ _ k.second_backed o.second_obeys)
-  throughout_in c (nextMove a) r p lower upper v b k o = throughout c a _ _ k.first_backed o.first_obeys
+  throughout_in c (next_move a) r p lower upper v b k o = throughout c a _ _ k.first_backed o.first_obeys
   throughout_in c (between t u a e) r p lower upper v b k o =
       (throughout c a _ _ k.first_backed o.first_obeys, throughout c e _ _ k.second_backed o.second_obeys)
 
@@ -63,7 +63,7 @@ mutual
       (k : PathBacked c w (ChanceKeeps c r p lower upper v)) → SidesThroughoutIn c w (ChanceKeeps c r p lower upper v) k
   sides_throughout_in c (until t a e) r p lower upper v k =
       (sides_throughout c a _ k.first_backed, sides_throughout c e _ k.second_backed)
-  sides_throughout_in c (nextMove a) r p lower upper v k = sides_throughout c a _ k.first_backed
+  sides_throughout_in c (next_move a) r p lower upper v k = sides_throughout c a _ k.first_backed
   sides_throughout_in c (between t u a e) r p lower upper v k =
       (sides_throughout c a _ k.first_backed, sides_throughout c e _ k.second_backed)
 
@@ -175,7 +175,7 @@ mutual
   shared c (until t a e) r p lower upper v lower' upper' w k m =
       shared_two c _ _ (until_of t) (until_of t) (reads_until t) k.first m.first k.second m.second
       (backings_agree c a _ _ k.first_backed m.first_backed) (backings_agree c e _ _ k.second_backed m.second_backed) k.keeps m.keeps
-  shared c (nextMove a) r p lower upper v lower' upper' w k m =
+  shared c (next_move a) r p lower upper v lower' upper' w k m =
       let h : AtEach c λ u. Together (k.first u) (m.first u) = backings_agree c a _ _ k.first_backed m.first_backed in
       let x : ℕ → Bool = λ u. either (k.first u) (m.first u) in
       record {

@@ -1,0 +1,18 @@
+-- `place` meets its contract, by the laws of `NamesLaw`. Assumes nothing.
+use lib.ListN.{length}
+use Rattle.labels.proofs.NamesLaw.{Placing}
+use Rattle.labels.proofs.NamesLaw.{name_laws}
+use borrow.Author.Rules.{rules}
+use Rattle.labels.proofs.names.place.Goals as goal
+
+pub returns-then-same : goal.returns-then-same
+returns-then-same c = search (rules, name_laws)
+
+pub loop-t-smaller : goal.loop-t-smaller
+loop-t-smaller c = search (rules, name_laws)
+
+pub loop-t-preserved : goal.loop-t-preserved
+loop-t-preserved c = search (rules, name_laws)
+
+pub returns : goal.returns
+returns c = search (rules, name_laws)
