@@ -70,8 +70,8 @@ exit_at l n s = at l (exits_from n + s)
 abbrev pub end_at : List ℕ → (n : ℕ) → ℕ → ℕ
 end_at l n s = at l (ends_from n + s)
 
-abbrev pub field_own : List ℕ → (n : ℕ) → ℕ → ℕ
-field_own l n s = own_rate (at l (owns_from n + s))
+abbrev pub own_at : List ℕ → (n : ℕ) → ℕ → ℕ
+own_at l n s = own_rate (at l (owns_from n + s))
 
 -- in the same word: where the row of the moves that enter the state ends in their index
 abbrev pub index_end_at : List ℕ → (n : ℕ) → ℕ → ℕ
