@@ -1,0 +1,11 @@
+-- `tally_lines` meets its contract, by the laws of `ReadLaw`. Assumes nothing.
+use borrow.Author.Rules.{rules}
+use lib.ListN.{length}
+use Rattle.moves.proofs.ReadLaw.{Tallying, tally_laws}
+use Rattle.moves.proofs.facts.tally_lines.Given as goal
+
+abbrev pub invariant-loop-t : goal.invariant-loop-t
+invariant-loop-t l = Tallying l.states l.s l.t l.sofar l.totals l.owns
+
+abbrev pub decreases-loop-t : goal.decreases-loop-t
+decreases-loop-t l = length l.t

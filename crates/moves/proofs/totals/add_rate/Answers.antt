@@ -1,0 +1,6 @@
+-- `add_rate` meets its contract. Assumes nothing.
+use borrow.Author.Rules.{rules}
+use Rattle.moves.proofs.totals.add_rate.Goals as goal
+
+pub returns : goal.returns
+returns c = rw c.tested_sum.ensures

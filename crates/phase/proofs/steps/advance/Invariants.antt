@@ -1,0 +1,11 @@
+-- `advance` meets its contract. Assumes nothing.
+use Prim.Native.Nat.{◌-◌}
+use borrow.Author.Rules.{rules}
+use Rattle.phase.proofs.AdvanceLaw.{Inv, advance_laws}
+use Rattle.phase.proofs.steps.advance.Given as goal
+
+abbrev pub invariant-loop-i : goal.invariant-loop-i
+invariant-loop-i l = Inv l.initial.words l.words l.n l.w l.i
+
+abbrev pub decreases-loop-i : goal.decreases-loop-i
+decreases-loop-i l = l.n - l.i

@@ -1,0 +1,11 @@
+-- `seed` meets its contract. Assumes nothing.
+use Prim.Native.Nat.{◌-◌}
+use borrow.Author.Rules.{rules}
+use Rattle.reachability.proofs.SeedLaw.{Inv, seed_laws}
+use Rattle.reachability.proofs.begin.seed.Given as goal
+
+abbrev pub invariant-loop-s : goal.invariant-loop-s
+invariant-loop-s l = Inv l.initial.words l.initial.rows l.words l.rows l.n l.tail l.s
+
+abbrev pub decreases-loop-s : goal.decreases-loop-s
+decreases-loop-s l = l.n - l.s

@@ -1,0 +1,11 @@
+-- `enter` meets its contract. Assumes nothing.
+use Prim.Native.Nat.{◌-◌}
+use borrow.Author.Rules.{rules}
+use Rattle.reachability.proofs.EnterLaw.{Inv, enter_laws}
+use Rattle.reachability.proofs.spread.enter.Given as goal
+
+abbrev pub invariant-loop-k : goal.invariant-loop-k
+invariant-loop-k l = Inv l.index l.initial.words l.initial.rows l.n l.begin l.end l.queued l.most l.words l.rows l.tail l.k
+
+abbrev pub decreases-loop-k : goal.decreases-loop-k
+decreases-loop-k l = l.end - l.k
