@@ -178,8 +178,8 @@ module _ {mv l first second : List ℕ} {n q last : ℕ} (p : BothAsked mv l fir
           upper_is : (s : ℕ) → s < n → at z (n + s) ≡ upper_from (sum_at y n s) (total_in l n) (whole_of l n last e)
           upper_is s h = u.filled s h ∙ rw (total-like like-high, whole_like) refl
 
-          upper_by : (s : ℕ) → s < n → at z (n + s) ≡ upper_by mv first second l n q last gap s
-          upper_by s h =
+          upper_meant : (s : ℕ) → s < n → at z (n + s) ≡ upper_by mv first second l n q last gap s
+          upper_meant s h =
               upper_is s h
               ∙ rw (sum_is s h, c)
               (upper_split (leb gap most_gap) (sum_from mv first second l n q last false s) (sum_from mv first second l n q last true s) (total_in l n)
@@ -204,7 +204,7 @@ module _ {mv l first second : List ℕ} {n q last : ℕ} (p : BothAsked mv l fir
               record {
                 same = f.same ∙ like-upper.same;
                 lowers = λ s h. f.lowers s h ∙ ap (pointed (verdicts first s) (verdicts second s)) (lower_was s h ∙ lower_is s h);
-                uppers = λ s h. f.uppers s h ∙ ap (pointed (verdicts first s) (verdicts second s)) (rw d at (upper_by s h));
+                uppers = λ s h. f.uppers s h ∙ ap (pointed (verdicts first s) (verdicts second s)) (rw d at (upper_meant s h));
                 after = λ k h b. f.after k (omega arith) ∙ like-upper.after k h b;
               }
 

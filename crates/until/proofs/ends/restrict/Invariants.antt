@@ -1,0 +1,12 @@
+-- `restrict` meets its contract. Assumes nothing.
+use borrow.Author.Rules.{rules}
+use native.Mathlib.Omega.{arith}
+use Prim.Native.Nat.{◌-◌}
+use Rattle.until.proofs.RestrictLaw.{Inv, restrict_laws, turn}
+use Rattle.until.proofs.ends.restrict.Given as goal
+
+abbrev pub invariant-loop-s : goal.invariant-loop-s
+invariant-loop-s l = Inv l.initial.words l.words l.first l.n l.s
+
+abbrev pub decreases-loop-s : goal.decreases-loop-s
+decreases-loop-s l = l.n - l.s

@@ -1,0 +1,19 @@
+-- `read` meets its contract. Assumes nothing.
+use borrow.Author.Rules.{rules}
+use Rattle.until.proofs.ReadLaw.{read_laws}
+use Rattle.until.proofs.reading.read.Goals as goal
+
+pub lay-requires : goal.lay-requires
+lay-requires c = search (rules, read_laws)
+
+pub begin-requires : goal.begin-requires
+begin-requires c = search (rules, read_laws)
+
+pub run-requires : goal.run-requires
+run-requires c = search (rules, read_laws)
+
+pub shape_of-words : goal.shape_of-words
+shape_of-words c = search (rules, read_laws)
+
+pub returns : goal.returns
+returns c = search (rules, read_laws)
