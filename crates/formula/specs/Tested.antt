@@ -1,11 +1,12 @@
 -- The tests of a formula's nodes are the tests of the formula: refusals 12, 13, 16 and 14. Assumes nothing.
-use Rattle.std.specs.Prelude.{◌≡◌, refl, ℕ, zero, suc, ◌+◌, Bool, true, ◌&&◌, List, ◌++◌}
+use Rattle.std.specs.Prelude.{◌≡◌, refl, ℕ, zero, suc, ◌+◌, Bool, true, ◌&&◌, List, ◌++◌, leb, eqb}
 use Rattle.std.proofs.Common.{◌∙◌, arith}
 use Rattle.std.proofs.Math.Bool.{and-true, and_assoc, and_comm}
 use Rattle.csl.specs.Text.{Text}
 use Rattle.csl.specs.Labels.{place_of}
 use Rattle.csl.specs.Formula as csl
 use Rattle.csl.specs.Formula.{Formula, PathOf, path_of, nodes, nodes_in, labels_pass, labels_pass_in, times_pass, two_phases, phases_pass, times_in_order, paths_pass, paths_pass_in}
+use Rattle.csl.specs.Limits.{most_hundredths}
 use Rattle.formula.specs.Nodes.{path_meant}
 use Rattle.formula.specs.Pass.{place_passes, path_passes, all_below, place_passed}
 use Rattle.formula.specs.declared.nodes.Node.{Node}
@@ -63,10 +64,10 @@ same_times : {A B : Type 0} (o : PathOf A) (x : PathOf B) (test : Test) (p : ℕ
     → ((f : ℕ → Bool) → phases_pass f o ≡ phases_pass f x) → two_phases o ≡ two_phases x → times_in_order o ≡ times_in_order x
     → path_passes test p o ≡ path_passes test p x
 same_times o x (Labels names) p h k m n = refl
-same_times o x Limits p h k m n = rw h
+same_times o x Limits p h k m n = rw (h (λ t. leb t most_hundredths))
 same_times o x Order p h k m n = n
 same_times o x (Load q) p h k m n = k _
-same_times o x NoSearch p h k m n = rw (h, m)
+same_times o x NoSearch p h k m n = rw (h (λ t. eqb t 0), m)
 
 path_tested : (test : Test) (p i n : ℕ) (w : csl.Path) → path_passes test p (path_meant (path_held i n w)) ≡ path_passes test p (path_of w)
 path_tested test p i n (csl.until t a c) = same_times _ _ test p (λ f. refl) (λ f. refl) refl refl

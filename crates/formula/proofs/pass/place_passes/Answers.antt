@@ -1,0 +1,6 @@
+-- `place_passes` meets its contract. Assumes nothing.
+use borrow.Author.Rules.{rules}
+use Rattle.formula.proofs.pass.place_passes.Goals as goal
+
+pub returns-in-Labels : goal.returns-in-Labels
+returns-in-Labels c = rw c.in-Labels.is
