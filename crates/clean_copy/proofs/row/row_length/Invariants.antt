@@ -1,0 +1,11 @@
+-- `row_length` meets its contract. Assumes nothing.
+use Prim.Native.Nat.{◌-◌}
+use borrow.Author.Rules.{rules}
+use Rattle.clean_copy.proofs.RowLaw.{Measured, measure_laws}
+use Rattle.clean_copy.proofs.row.row_length.Given as goal
+
+abbrev pub invariant-loop-to : goal.invariant-loop-to
+invariant-loop-to l = Measured l.rates l.from l.n l.length l.to
+
+abbrev pub decreases-loop-to : goal.decreases-loop-to
+decreases-loop-to l = l.n - l.to

@@ -1,0 +1,12 @@
+-- `write_lines` meets its contract. Assumes nothing.
+use Prim.Native.Nat.{◌-◌}
+use native.Mathlib.Omega.{arith}
+use borrow.Author.Rules.{rules}
+use Rattle.clean_copy.proofs.WholeLaw.{Visiting, visit_laws, Writing, write_laws, write_next}
+use Rattle.clean_copy.proofs.whole.write_lines.Given as goal
+
+abbrev pub invariant-loop-s : goal.invariant-loop-s
+invariant-loop-s l = Visiting l.rows l.columns l.n l.initial.totals l.totals l.s × Writing l.rows l.columns l.n l.at l.initial.out l.out l.next l.s
+
+abbrev pub decreases-loop-s : goal.decreases-loop-s
+decreases-loop-s l = l.n - l.s
