@@ -19,8 +19,8 @@ use Rattle.csl.specs.Finished.{Answer, refused_with, accepted_with, Finished, Fi
 use Rattle.accepted.specs.Sheet.{SheetPassed, sheet_passed}
 use Rattle.accepted.specs.Formula.{FormulaPassed, formula_passed}
 use Rattle.accepted.specs.Job.{refused_by_texts, refused_by_lengths, accepted_by_all, formula_too_long, refused_by_sheet, left_to_formula}
-use Rattle.bounds.specs.Found.{report_lower, report_upper}
-use Rattle.bounds.proofs.Found.{found, report_found}
+use Rattle.bounds.specs.Found.{report_lower, report_upper, found}
+use Rattle.bounds.proofs.Found.{report_found}
 use Rattle.verdicts.specs.Paper.{answer_of}
 use Rattle.texts.specs.Span.{span_of}
 use Rattle.formula.specs.Listed.{stored}

@@ -3,8 +3,7 @@ use Rattle.std.specs.Prelude.{List, ℕ, length}
 use Rattle.csl.specs.Formula.{nodes}
 use Rattle.csl.specs.Lent.{Buffers, lengths, filled}
 use Rattle.csl.specs.Refusal.{Job, job_states, job_moves, Outcome, refused, accepted, outcome}
-use Rattle.bounds.specs.Found.{report_lower, report_upper}
-use Rattle.bounds.proofs.Found.{found}
+use Rattle.bounds.specs.Found.{report_lower, report_upper, found}
 
 -- a refused job leaves all as it was; an accepted one what is found of its chain and its formula
 unfoldable pub left_by : (states lines : ℕ) → Outcome → Buffers (List ℕ) → Buffers (List ℕ)

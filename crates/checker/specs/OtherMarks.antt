@@ -4,8 +4,7 @@ use Rattle.csl.specs.Formula.{nodes}
 use Rattle.csl.specs.Lent.{Buffers, lengths}
 use Rattle.csl.specs.Refusal.{Job, job_states, job_moves, short_buffer, Outcome, refused, accepted, outcome}
 use Rattle.csl.proofs.Laws.Lending.{ButForMarks, filled_alike, outcome_alike}
-use Rattle.bounds.specs.Found.{report_lower, report_upper}
-use Rattle.bounds.proofs.Found.{found}
+use Rattle.bounds.specs.Found.{report_lower, report_upper, found}
 use Rattle.checker.specs.Leaves.{left_by, leaves}
 
 left_alike : (n m : ℕ) (o : Outcome) (x y : Buffers (List ℕ)) → ButForMarks x y → ButForMarks (left_by n m o x) (left_by n m o y)

@@ -11,8 +11,7 @@ use Rattle.csl.specs.Report.{depth_of}
 use Rattle.csl.specs.Lent.{Buffers, lengths, verdict_byte, written}
 use Rattle.accepted.specs.Sheet.{SheetPassed}
 use Rattle.numbers.specs.Filled.{at}
-use Rattle.bounds.specs.Found.{report_lower, report_upper}
-use Rattle.bounds.proofs.Found.{found}
+use Rattle.bounds.specs.Found.{report_lower, report_upper, found}
 use Rattle.formula.specs.Nodes.{kind_at}
 use Rattle.formula.specs.FormulaAt.{formula_at}
 use Rattle.formula.specs.declared.nodes.Nodes.{Nodes}

@@ -16,8 +16,7 @@ use Rattle.csl.specs.Verdicts.{conjunction}
 use Rattle.csl.specs.Report.{depth_of}
 use Rattle.csl.specs.Lent.{verdict_byte}
 use Rattle.numbers.specs.Filled.{at, table_at, filled_as, Twin}
-use Rattle.bounds.specs.Found.{report_lower, report_upper}
-use Rattle.bounds.proofs.Found.{found, found_in}
+use Rattle.bounds.specs.Found.{report_lower, report_upper, found, found_in}
 use Rattle.verdicts.specs.Paper.{comparison_of}
 use Rattle.verdicts.specs.declared.comparison.Comparison as code
 use Rattle.vectors.specs.Places.{marks_from}

@@ -9,7 +9,7 @@ use Rattle.csl.specs.Formula.{Formula, levels, levels_in}
 use Rattle.csl.specs.Lent.{verdict_byte}
 use Rattle.numbers.specs.Filled.{at, Filled, table_at, table_rest}
 use Rattle.numbers.specs.Part.{rest, back, rest_at, rest_length, part_filled}
-use Rattle.bounds.proofs.Found.{found}
+use Rattle.bounds.specs.Found.{found}
 use Rattle.vectors.specs.Places.{values_from}
 use Rattle.vectors.specs.Prepared.{ends_prepared}
 use Rattle.verdicts.specs.Byte.{verdict_at, byte_read}

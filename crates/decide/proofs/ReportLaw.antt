@@ -15,8 +15,7 @@ use Rattle.csl.specs.Verdicts.{Verdict, No, Yes, Undecided, marked, negation, co
 use Rattle.csl.specs.Report.{lower_of, upper_of, depth_of}
 use Rattle.csl.specs.Lent.{verdict_byte}
 use Rattle.numbers.specs.Filled.{at}
-use Rattle.bounds.specs.Found.{report_lower, report_upper}
-use Rattle.bounds.proofs.Found.{found}
+use Rattle.bounds.specs.Found.{report_lower, report_upper, found}
 use Rattle.verdicts.specs.Byte.{verdict_at, byte_read}
 use Rattle.vectors.specs.Places.{EndsStored}
 use Rattle.verdict_rows.specs.Row.{EndsIn}

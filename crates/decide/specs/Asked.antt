@@ -7,8 +7,7 @@ use Rattle.csl.specs.Chain.{Chain}
 use Rattle.csl.specs.Report.{depth_of}
 use Rattle.csl.specs.Lent.{verdict_byte}
 use Rattle.numbers.specs.Filled.{at, Table}
-use Rattle.bounds.specs.Found.{report_lower, report_upper}
-use Rattle.bounds.proofs.Found.{found}
+use Rattle.bounds.specs.Found.{report_lower, report_upper, found}
 use Rattle.rate_matrix.specs.Shown.{Shows}
 use Rattle.incoming_moves.specs.Shown.{IndexShows}
 use Rattle.vectors.specs.Places.{owns_from, marks_from, EndsStored}
