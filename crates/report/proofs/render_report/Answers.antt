@@ -13,7 +13,7 @@ pub returns-then-not-listings_fit : goal.returns-then-not-listings_fit
 returns-then-not-listings_fit c = search (rules, report_laws)
 
 pub write_listings-length-requires : goal.write_listings-length-requires
-write_listings-length-requires c = record { complete = search (rules, report_laws); room = both_within _ _ _ _ _ _ _ c.listings_fit.ensures c.if-not-listings_fit.false-raw }
+write_listings-length-requires c = record { complete = search (rules, report_laws); room = both_within _ _ _ _ _ _ _ c.listings_fit.ensures (ap not c.if-not-listings_fit.false) }
 
 pub returns : goal.returns
 returns c = search (rules, report_laws)

@@ -14,9 +14,9 @@ pub loop-i-init : goal.loop-i-init
 loop-i-init c = (search rules, search rules, below_none _)
 
 pub returns-then-not-passes : goal.returns-then-not-passes
-returns-then-not-passes c = sym (below_fails _ _ _ (omega arith) (sym c.passes.ensures ∙ not-true _ c.if-not-passes.true-raw))
+returns-then-not-passes c = sym (below_fails _ _ _ (omega arith) (sym c.passes.ensures ∙ c.if-not-passes.true))
 
 pub loop-i-preserved : goal.loop-i-preserved
 loop-i-preserved c =
-    let passes = sym c.passes.ensures ∙ not-false _ c.if-not-passes.false-raw in
+    let passes = sym c.passes.ensures ∙ c.if-not-passes.false in
     (search rules, search rules, below_next _ _ c.loop-i.invariant.2 passes)

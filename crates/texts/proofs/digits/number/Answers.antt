@@ -17,14 +17,14 @@ overflow_cast-b c = omega (arith, c.type_inv.s c.loop-used.used)
 pub returns-then-not-is_digit : goal.returns-then-not-is_digit
 returns-then-not-is_digit c =
     let i = c.loop-used.invariant.1 in
-    let e = sym c.is_digit.ensures ∙ not-true _ c.if-not-is_digit.true-raw in
+    let e = sym c.is_digit.ensures ∙ c.if-not-is_digit.true in
     let both = number_ends _ i e (omega arith) (omega arith) (omega arith) c.settle.ensures in record { value = both.0; within = both.1 }
 
 pub overflow_mul-value : goal.overflow_mul-value
 overflow_mul-value c = omega (arith, fits c.loop-used.invariant.1 10 (omega arith))
 
 pub overflow_sub-value : goal.overflow_sub-value
-overflow_sub-value c = (digit_range _ (held c.is_digit.ensures c.if-not-is_digit.false-raw)).0
+overflow_sub-value c = (digit_range _ (sym c.is_digit.ensures ∙ c.if-not-is_digit.false)).0
 
 pub overflow_add-value : goal.overflow_add-value
 overflow_add-value c =

@@ -12,27 +12,27 @@ use Rattle.texts.proofs.FieldLaw.{marks_no, marks_yes, marks_end, marks_bad}
 use Rattle.texts.proofs.fields.marks.Goals as goal
 
 pub returns-then-not-mark : goal.returns-then-not-mark
-returns-then-not-mark c = record { value = marks_no _ _ _ _ c.loop-left.invariant.3 (omega arith) (sym c.mark.ensures ∙ not-true _ c.if-not-mark.true-raw); within = search rules }
+returns-then-not-mark c = record { value = marks_no _ _ _ _ c.loop-left.invariant.3 (omega arith) (sym c.mark.ensures ∙ c.if-not-mark.true); within = search rules }
 
 pub overflow_add-used : goal.overflow_add-used
-overflow_add-used c = omega (arith, mark_bytes comma _ (sym c.mark.ensures ∙ not-false _ c.if-not-mark.false-raw))
+overflow_add-used c = omega (arith, mark_bytes comma _ (sym c.mark.ensures ∙ c.if-not-mark.false))
 
 pub slice_bounds-t-count : goal.slice_bounds-t-count
-slice_bounds-t-count c = mark_bytes comma _ (sym c.mark.ensures ∙ not-false _ c.if-not-mark.false-raw)
+slice_bounds-t-count c = mark_bytes comma _ (sym c.mark.ensures ∙ c.if-not-mark.false)
 
 pub slice_bounds-t-start : goal.slice_bounds-t-start
 slice_bounds-t-start c =
-    let l = mark_bytes comma _ (sym c.mark.ensures ∙ not-false _ c.if-not-mark.false-raw) in
+    let l = mark_bytes comma _ (sym c.mark.ensures ∙ c.if-not-mark.false) in
     search rules
 
 pub slice_bounds-t-end : goal.slice_bounds-t-end
 slice_bounds-t-end c =
-    let l = mark_bytes comma _ (sym c.mark.ensures ∙ not-false _ c.if-not-mark.false-raw) in
+    let l = mark_bytes comma _ (sym c.mark.ensures ∙ c.if-not-mark.false) in
     search rules
 
 pub loop-left-preserved : goal.loop-left-preserved
 loop-left-preserved c =
-    let e = sym c.mark.ensures ∙ not-false _ c.if-not-mark.false-raw in
+    let e = sym c.mark.ensures ∙ c.if-not-mark.false in
     let l = mark_bytes comma _ e in (
       omega arith,
       search rules,
