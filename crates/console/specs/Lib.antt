@@ -1,2 +1,3 @@
--- What a number tells of.
+-- What a number tells of, and counts within a text.
 pub mod Told
+pub mod Counts

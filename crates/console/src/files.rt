@@ -1,33 +1,35 @@
 // The texts of a job, from files.
-ghost use Rattle.io.specs.Counts.{IsPrefixLen};
+ghost use Rattle.console.specs.Counts.{IsPrefixLen};
+
+use std::fs::File;
+use std::io::{ErrorKind, Read};
+use std::rt::Files;
 
 // Reads the file of this name to the front of `text` and answers how many bytes that is; of a file that is longer it reads as much as `text`
 // holds. A file that cannot be opened counts as empty, and so does one that cannot be read to its end.
 //
 // Open is what the system's `read` puts into `text`, of which it promises nothing; so is how many bytes a file has.
-pub fn read_text(name: &[u8], text: &mut [u8]) -> usize
+pub fn read_text(rt: &impl Files, name: &[u8], text: &mut [u8]) -> usize
     ensures { IsPrefixLen result text.new }
 {
-    let file = os::open_read(name);
-    if file < 0 {
+    let Ok(path) = str::from_utf8(name) else {
         return 0;
-    }
-    let used = read_open(file, text);
-    libc::close(file);
-    used
+    };
+    let Ok(mut file) = File::open(rt, path) else {
+        return 0;
+    };
+    read_open(&mut file, text)
 }
 
 // Reads an open file to the front of `text` until that is full or the file ends; 0 where a read fails.
-fn read_open(file: i32, text: &mut [u8]) -> usize
+fn read_open(file: &mut impl Read, text: &mut [u8]) -> usize
     ensures { IsPrefixLen result text.new }
 {
     let mut used: usize = 0;
     while used < text.len() {
-        let got = libc::read(file, &mut text[used..]);
-        if got < 0 {
+        let Ok(more) = file.read(&mut text[used..]) else {
             return 0;
-        }
-        let more = io::count(got, &text[used..]);
+        };
         if more == 0 {
             return used;
         }

@@ -18,8 +18,8 @@ use Rattle.csl.specs.Refusal.{Job, job_states, job_chain, job_formula, text_refu
 use Rattle.csl.specs.Finished.{Answer, Accepted, TurnedBack, Finished, FinishedBy}
 use Rattle.csl.proofs.Laws.Order.{ordered_length}
 use Rattle.accepted.specs.Job.{passed, refused_by_texts, accepted_by_all, text_number_most}
-use Rattle.io.specs.Counts.{IsPrefixLen}
-use Rattle.io.proofs.Counting.{prefix_len_of_le}
+use Rattle.console.specs.Counts.{IsPrefixLen}
+use Rattle.console.proofs.Counting.{prefix_len_of_le}
 use Rattle.verdicts.specs.Byte.{verdict_at, byte_read}
 use Rattle.results.specs.Column.{column_length, written_length, written_at_lem}
 use Rattle.checker.specs.Job.{states_in}

@@ -1,6 +1,6 @@
 // The text that is printed for a job.
 ghost use Rattle.std.specs.Prelude.{◌≡◌, ◌≤◌, length};
-ghost use Rattle.io.specs.Counts.{IsPrefixLen};
+ghost use Rattle.console.specs.Counts.{IsPrefixLen};
 ghost use Rattle.verdicts.specs.Paper.{answer_of};
 ghost use Rattle.checker.specs.Job.{job};
 ghost use Rattle.sheetcheck.specs.Prints.{Answered, length_of, number_in};

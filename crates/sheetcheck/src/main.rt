@@ -6,17 +6,19 @@ mod answer;
 
 use answer::{TEXT_BYTES, write_answer};
 use console::{print, read_text};
+use std::io;
 
 // Each text has room for one byte more than its limit, so that a longer one is seen to be too long.
-fn main() {
+fn main(rt: HostRuntime) -> io::Result<()> {
     let mut moves = [0u8; limits::SHEET_BYTES + 1];
     let mut labels = [0u8; limits::SHEET_BYTES + 1];
     let mut formula = [0u8; limits::FORMULA_BYTES + 1];
     let mut out = [0u8; TEXT_BYTES];
-    let m = read_text(b"moves.txt", &mut moves);
-    let l = read_text(b"labels.txt", &mut labels);
-    let f = read_text(b"formula.txt", &mut formula);
+    let m = read_text(&rt, b"moves.txt", &mut moves);
+    let l = read_text(&rt, b"labels.txt", &mut labels);
+    let f = read_text(&rt, b"formula.txt", &mut formula);
     let written = write_answer(&moves[..m], &labels[..l], &formula[..f], &mut out);
     let n = written.length;
-    print(b"sheetcheck", &out[..n], written.number);
+    print(&rt, b"sheetcheck", &out[..n], written.number)?;
+    Ok(())
 }

@@ -15,8 +15,8 @@ use Rattle.csl.specs.Refusal.{out_of_bytes, Test, test, sheet_tests, first_of}
 use Rattle.csl.specs.Copy.{copied, copy_refused, copy_text, short_copy, copy_refusal, CopiedBy, Copied}
 use Rattle.accepted.specs.Order.{neither, NoneHolds, first_none, first_found, first_after}
 use Rattle.same_chain.specs.Copies.{copy_short}
-use Rattle.io.specs.Counts.{IsPrefixLen}
-use Rattle.io.proofs.Counting.{prefix_len_of_le}
+use Rattle.console.specs.Counts.{IsPrefixLen}
+use Rattle.console.proofs.Counting.{prefix_len_of_le}
 use Rattle.decimals.specs.Place.{written_at, Room, Wrote}
 use Rattle.decimals.specs.Writing.{written_length}
 use Rattle.report.specs.Refused.{refusal_few}

@@ -1,7 +1,7 @@
 // The text that is printed for moves that are to be copied.
 ghost use Rattle.std.specs.Prelude.{◌≤◌, length};
 ghost use Rattle.csl.specs.Limits.{sheet_bytes};
-ghost use Rattle.io.specs.Counts.{IsPrefixLen};
+ghost use Rattle.console.specs.Counts.{IsPrefixLen};
 ghost use Rattle.sheetcopy.specs.Prints.{CopyWritten};
 
 use clean_copy::CopyAnswer;

@@ -1,0 +1,2 @@
+-- What a count that lies within a text has.
+pub mod Counting
