@@ -20,12 +20,14 @@ def compile_c(name, sources, *words, quiet=False):
     return subprocess.run(command, stderr=subprocess.DEVNULL if quiet else None).returncode == 0
 
 
-def need(path, *words):
-    """Has `rt` prove and build what is to be at the path, where it is not there or older than the crates."""
+def need(path, verb):
+    """Has `rt` prove and build what is to be at the path, in its crate, where it is not there or older than the crates."""
+    crate = path.parent.parent
     if is_stale(path):
-        print(f"building {path.relative_to(ROOT)} by `{' '.join(words)}`", flush=True)
-        if subprocess.run(words, cwd=ROOT, stdout=sys.stderr).returncode != 0 or not path.exists():
-            sys.exit(f"bench: `{' '.join(words)}` failed")
+        print(f"building {path.relative_to(ROOT)} by `rt {verb}` in {crate.relative_to(ROOT)}", flush=True)
+        built = subprocess.run(["rt", verb], cwd=crate, stdin=subprocess.DEVNULL, stdout=sys.stderr)
+        if built.returncode != 0 or not path.exists():
+            sys.exit(f"bench: `rt {verb}` failed in {crate.relative_to(ROOT)}")
         path.touch()
 
 
@@ -37,8 +39,8 @@ def build_balls():
 def build():
     """Builds everything; answers whether Arb is there."""
     PLACE.mkdir(parents=True, exist_ok=True)
-    need(ARCHIVE, "rt", "staticlib", "sebdyqul")
-    need(PROGRAM, "rt", "check", "sheetcheck")
+    need(ARCHIVE, "lib")
+    need(PROGRAM, "run")
     built = [
         compile_c("doubles", ["doubles.c", "sheet.c"]),
         compile_c("job", ["job.c"], ARCHIVE),

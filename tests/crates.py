@@ -10,11 +10,11 @@ from functools import cache
 from tests.places import ROOT
 
 LIST = ROOT / "crates.txt"
-LIBRARIES = ("io", "libc", "os", "check", "bytes")      # that come with Rattle
+LIBRARIES = ("check", "bytes")                          # that come with Rattle; `std` is never listed
 COMMENT = re.compile(r"(?://|--).*")
 MODULE = re.compile(r"^(?:pub )?mod (\w+);", re.MULTILINE)
 PATH = re.compile(r"(?<![\w:])(\w+)::((?:\w+::)*(?:\w+|\{[^}]*\}))")
-STATED = re.compile(r"Rattle·(\w+)\.")                  # a crate's own statements are Rattle·NAME·specs and Rattle·NAME·proofs
+STATED = re.compile(r"\bRattle\.(\w+)\.")              # a crate's own statements are Rattle.NAME.specs and Rattle.NAME.proofs
 PASSED_ON = re.compile(r"^pub use ((?:\w+::)+(?:\w+|\{[^}]*\}));", re.MULTILINE)
 OPEN_MODULE = re.compile(r"^pub mod (\w+);", re.MULTILINE)
 ITEM = re.compile(r"^(?P<indent> *)pub (?P<kind>fn|const|static|enum|struct|type) (?P<name>\w+)")       # none that is `extern "C"`
@@ -25,9 +25,9 @@ WORD = re.compile(r"\w+")
 
 
 def listed():
-    """For each crate, in the order of crates.txt, what its line lists."""
+    """For each crate, in the order of crates.txt, what its line lists; behind a name may stand `staticlib`."""
     lines = [line for line in LIST.read_text().splitlines() if line and not line.startswith("#")]
-    return {name: words.split() for name, words in (line.split(":") for line in lines)}
+    return {head.split()[0]: words.split() for head, words in (line.split(":") for line in lines)}
 
 
 @cache
@@ -102,7 +102,7 @@ def for_nobody(crate):
 
 
 def named(crate):
-    """The crates that a crate names: in code as `name::`, in statements as `Rattle·name.`, and through what it calls.
+    """The crates that a crate names: in code as `name::`, in statements as `Rattle.name.`, and through what it calls.
 
     The borrow checker has to name the type of each value that is reached, so a type that a named item shows counts as named.
     """
@@ -141,7 +141,8 @@ def wanted():
 def write():
     """Puts what is wanted into crates.txt."""
     lines = wanted()
-    LIST.write_text(re.sub(r"^(\w+):.*$", lambda line: " ".join([f"{line[1]}:", *lines[line[1]]]), LIST.read_text(), flags=re.MULTILINE))
+    head = re.compile(r"^((\w+)(?: \w+)?):.*$", re.MULTILINE)
+    LIST.write_text(head.sub(lambda line: " ".join([f"{line[1]}:", *lines[line[2]]]), LIST.read_text()))
 
 
 if __name__ == "__main__":

@@ -23,22 +23,18 @@ from reckoning.verdict import NO, UNDECIDED, YES
 from tests.places import ROOT
 
 HEAD = f"""-- Jobs against the definitions, by computation. Assumes nothing.
-use mathlib.Core.Path.{{_≡_, refl}}
-use Prim.Native.Nat.{{ℕ}}
-use mathlib.Core.Option.{{Option, some, none}}
-use mathlib.Core.Bool.{{cond}}
-use mathlib.Core.List.{{List, [], _∷_}}
-use lib.Dec.{{eqb}}
-use Rattle·csl.specs.Text.{{bytes}}
-use Rattle·csl.specs.Formula.{{always, label, negated, both, chance, until, between, nextMove, Less, AtMost, AtLeast, More}}
-use Rattle·csl.specs.Lent.{{Buffers, needed}}
-use Rattle·csl.specs.Chain.{{topRate}}
-use Rattle·csl.specs.Verdicts.{{No, Yes, Undecided}}
-use Rattle·csl.specs.Order.{{worstFirst}}
-use Rattle·csl.specs.Report.{{depthOf, reportText}}
-use Rattle·csl.specs.Refusal.{{Job, jobChain, jobFormula, refusal}}
-use Rattle·csl.specs.Copy.{{copyText, copyRefusal}}
-use Rattle·csl.specs.Laws.Computing.{{computing}}
+use Rattle.std.specs.Prelude.{{◌≡◌, refl, cond, ℕ, eqb, List, [], ◌∷◌}}
+use Rattle.std.proofs.Math.Option.{{Option, some, none}}
+use Rattle.csl.specs.Text.{{bytes}}
+use Rattle.csl.specs.Formula.{{always, label, negated, both, chance, until, between, nextMove, Less, AtMost, AtLeast, More}}
+use Rattle.csl.specs.Lent.{{Buffers, needed}}
+use Rattle.csl.specs.Chain.{{top_rate}}
+use Rattle.csl.specs.Verdicts.{{No, Yes, Undecided}}
+use Rattle.csl.specs.Order.{{worst_first}}
+use Rattle.csl.specs.Report.{{depth_of, report_text}}
+use Rattle.csl.specs.Refusal.{{Job, job_chain, job_formula, refusal}}
+use Rattle.csl.specs.Copy.{{copy_text, copy_refusal}}
+use Rattle.csl.proofs.Laws.Computing.{{computing}}
 
 abbrev enough : Buffers ℕ
 enough = needed {MOST_STATES} {MOST_MOVES} {MOST_NODES}
@@ -91,11 +87,11 @@ def equation(number, job):
     answer = f"some {job['refused']}" if "refused" in job else "none"
     claim("refusal-of-", f"refusal job{number} {buffers(job.get('lent'))} ≡ {answer}")
     if "refused" not in job:
-        claim("formula-of-", f"jobFormula job{number} ≡ {term(f.read_formula(job['formula']))}")
+        claim("formula-of-", f"job_formula job{number} ≡ {term(f.read_formula(job['formula']))}")
     if "q" in job:
-        claim("rate-of-", f"topRate (jobChain job{number}) ≡ {job['q']}")
+        claim("rate-of-", f"top_rate (job_chain job{number}) ≡ {job['q']}")
     if "depth" in job:
-        claim("depth-of-", f"depthOf (jobChain job{number}) (jobFormula job{number}) ≡ {job['depth']}")
+        claim("depth-of-", f"depth_of (job_chain job{number}) (job_formula job{number}) ≡ {job['depth']}")
     return "\n".join(lines)
 
 
@@ -103,10 +99,10 @@ def copy_equations(number, moves, labels, room=SHEET_BYTES, answer=None):
     """The equations for a clean copy: the copy or the number that is given, by the second reckoning where none is."""
     answer = copied(moves, labels, room) if answer is None else answer
     texts = f"(bytes {quoted(moves)}) (bytes {quoted(labels)})"
-    lines = [f"copy-refusal-of-{number} : copyRefusal {texts} {room} ≡ {f'some {answer}' if isinstance(answer, int) else 'none'}",
+    lines = [f"copy-refusal-of-{number} : copy_refusal {texts} {room} ≡ {f'some {answer}' if isinstance(answer, int) else 'none'}",
              "unfolding computing", f"copy-refusal-of-{number} = refl", ""]
     if not isinstance(answer, int):
-        lines += [f"copy-of-{number} : copyText {texts} ≡ bytes {quoted(answer)}", "unfolding computing", f"copy-of-{number} = refl", ""]
+        lines += [f"copy-of-{number} : copy_text {texts} ≡ bytes {quoted(answer)}", "unfolding computing", f"copy-of-{number} = refl", ""]
     return "\n".join(lines)
 
 
@@ -125,8 +121,8 @@ def report_equations(number, rows, order=None):
     verdicts = by_state([VERDICTS[row.verdict] for row in rows])
     states = " ∷ ".join(map(str, [*(worst_first(rows) if order is None else order), "[]"]))
     return "\n".join([
-        f"order-of-{number} : worstFirst {lower} {upper} {len(rows)} ≡ {states}", "unfolding computing", f"order-of-{number} = refl", "",
-        f"text-of-{number} : reportText {len(rows)} {lower} {upper} {rows[0].depth} {verdicts} ≡ bytes {quoted(report_text(rows))}",
+        f"order-of-{number} : worst_first {lower} {upper} {len(rows)} ≡ {states}", "unfolding computing", f"order-of-{number} = refl", "",
+        f"text-of-{number} : report_text {len(rows)} {lower} {upper} {rows[0].depth} {verdicts} ≡ bytes {quoted(report_text(rows))}",
         "unfolding computing", f"text-of-{number} = refl", ""])
 
 
@@ -134,7 +130,7 @@ def check(equations):
     """Whether all equations hold, and what the check printed."""
     with tempfile.TemporaryDirectory() as folder:
         scratch = pathlib.Path(folder)
-        shutil.copytree(ROOT / "crates" / "csl", scratch / "crates" / "csl", ignore=shutil.ignore_patterns("must-fail"))
+        shutil.copytree(ROOT / "crates" / "csl", scratch / "crates" / "csl", ignore=shutil.ignore_patterns("must-fail", "out"))
         crate = scratch / "crates" / "jobs"
         (crate / "src").mkdir(parents=True)
         (crate / "specs").mkdir()
@@ -143,7 +139,7 @@ def check(equations):
         text = HEAD + "\n" + "\n".join(equations)
         (crate / "specs" / "Jobs.antt").write_text(text, encoding="utf-8")
         (scratch / "crates.txt").write_text("csl:\njobs: csl\n")
-        run = subprocess.run(["rt", "check", "jobs"], cwd=scratch, stdout=subprocess.PIPE, stderr=subprocess.STDOUT, text=True)
+        run = subprocess.run(["rt", "check"], cwd=crate, stdout=subprocess.PIPE, stderr=subprocess.STDOUT, text=True)
         return run.returncode == 0, run.stdout
 
 

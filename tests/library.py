@@ -13,7 +13,7 @@ from collections import namedtuple
 from reckoning.limits import MOST_MOVES, MOST_NODES, MOST_STATES, SHEET_BYTES
 from reckoning.refusal import Lent, lengths
 from tests.fenced import Fenced
-from tests.places import ARCHIVE, ROOT, TARGET, is_stale
+from tests.places import ARCHIVE, CRATES, TARGET, is_stale
 
 SHARED = TARGET / "library" / "libsebdyqul.so"
 
@@ -53,7 +53,7 @@ def build(shared=SHARED, sources=()):
 def build_archive():
     """Proves and writes the static library where it is not there or no longer that of the crates."""
     if is_stale(ARCHIVE):
-        subprocess.run(["rt", "staticlib", "sebdyqul"], cwd=ROOT, check=True, stdout=sys.stderr)
+        subprocess.run(["rt", "lib"], cwd=CRATES / "sebdyqul", check=True, stdout=sys.stderr)
         ARCHIVE.touch()
 
 

@@ -1,8 +1,9 @@
 """Runs everything: `rt ci` (proofs, must-fail edits, programs), then the project's own tests. Stops at the first failure.
 
-Tests that were skipped are told, each with its reason. The last line is `N passed, M failed`; N counts what was proved and what was tested.
+An edit that must fail and is bad, so that it was not put to the prover, is a failure here. What `rt ci` says of each edit is kept in
+target/must-fail.txt, for tests/test_edits.py. Tests that were skipped are told, each with its reason. The last line is `N passed, M failed`; N
+counts what was proved and what was tested.
 """
-import os
 import pathlib
 import re
 import subprocess
@@ -11,25 +12,36 @@ import time
 import unittest
 
 ROOT = pathlib.Path(__file__).resolve().parent.parent
+EDITS_SAID = ROOT / "target" / "must-fail.txt"
 CLOSING = re.compile(r"(\d+) passed, (\d+) failed")
-
-# `rt` starts checks in batches and waits for the last of each: a few more than there are processors keep these busy.
-JOBS = min(4, 2 * (os.cpu_count() or 1))
+BAD_EDITS = re.compile(r"rt: ok\b.*; must-fail edits: [^;]*?\b(\d+) bad\b")
+OF_AN_EDIT = "rt: must-fail "
 
 
 def prove():
     """What `rt ci` passed and failed; its output goes on to ours."""
-    passed, failed = 0, 1
-    jobs = {"RT_JOBS": str(JOBS)} | os.environ
-    with subprocess.Popen(["rt", "ci"], cwd=ROOT, env=jobs, stdout=subprocess.PIPE, stderr=subprocess.STDOUT, text=True) as run:
+    run = subprocess.Popen(["rt", "ci"], cwd=ROOT, stdout=subprocess.PIPE, stderr=subprocess.STDOUT, text=True, errors="replace")
+    lines = []
+    with run:
         for line in run.stdout:
             print(line, end="", flush=True)
-            closing = CLOSING.fullmatch(line.strip())
-            if closing:
-                passed, failed = map(int, closing.groups())
-    if run.returncode != 0:
+            lines.append(line)
+    EDITS_SAID.parent.mkdir(exist_ok=True)
+    EDITS_SAID.write_text("".join(line for line in lines if line.startswith(OF_AN_EDIT)))
+    return counted(lines, run.returncode)
+
+
+def counted(lines, status):
+    """What `rt ci` passed and failed, by its lines and its status. A bad edit counts as failed."""
+    passed, failed, bad = 0, 1, 0
+    for line in lines:
+        if closing := CLOSING.fullmatch(line.strip()):
+            passed, failed = map(int, closing.groups())
+        if told := BAD_EDITS.match(line):
+            bad = int(told[1])
+    if status != 0:
         failed = max(failed, 1)
-    return passed, failed
+    return passed, failed + bad
 
 
 class Result(unittest.TextTestResult):

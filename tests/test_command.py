@@ -171,7 +171,7 @@ class Bare:
 
     def __init__(self, outer):
         self.root, self.noted = Path(outer) / "bare", Path(outer) / "noted"
-        (self.root / "crates").mkdir(parents=True)
+        (self.root / "crates" / "sheetcheck").mkdir(parents=True)
         (self.root / "crates.txt").touch()
         shutil.copy(COMMAND, self.root)
         self.path = stand_in(outer, "rt", f"touch '{self.noted}'; exit 1")

@@ -1,4 +1,4 @@
-"""What `tests/run.py` counts and tells: a skipped test is none that passed, and its reason is told."""
+"""What `tests/run.py` counts and tells: a bad edit and a wrong status count as failed, a skipped test is none that passed, and its reason is told."""
 import io
 import unittest
 from contextlib import redirect_stdout
@@ -36,6 +36,27 @@ class Counting(unittest.TestCase):
         self.assertEqual((passed, failed), (1, 0))
         self.assertEqual([line.rpartition(": ")[2] for line in told], ["no folder", "no file"])
         self.assertTrue(all(line.startswith("skipped: tests.test_run.Mixed.skips") for line in told))
+
+
+class Proving(unittest.TestCase):
+    """Of the lines of `rt ci`."""
+
+    OK = "rt: ok; handles allowed: none; must-fail edits: 136 refused{}; every proof and must-fail edit was done in this run\n"
+
+    def test_passed_and_failed(self):
+        self.assertEqual(run.counted(["rt: one proved\n", self.OK.format(""), "42 passed, 0 failed\n"], 0), (42, 0))
+        self.assertEqual(run.counted(["rt: FAILED: one\n", "41 passed, 1 failed\n"], 1), (41, 1))
+
+    def test_status(self):
+        """It fails where `rt ci` does, whatever that printed, and where the last line is missing."""
+        self.assertEqual(run.counted([self.OK.format(""), "42 passed, 0 failed\n"], 1), (42, 1))
+        self.assertEqual(run.counted(["rt: one proved\n"], 0), (0, 1))
+        self.assertEqual(run.counted(["42 passed, 0 failed (one and the crates below alone: not the gate)\n"], 0), (0, 1))
+
+    def test_bad_edits(self):
+        for bad in (1, 12):
+            self.assertEqual(run.counted([self.OK.format(f", {bad} bad"), "42 passed, 0 failed\n"], 0), (42, bad))
+        self.assertEqual(run.counted([self.OK.format(", 0 bad"), "42 passed, 0 failed\n"], 0), (42, 0))
 
 
 if __name__ == "__main__":
