@@ -1,6 +1,6 @@
 /* Sebdyqul as a library: one finished report or one refusal number for a job of three texts; and the clean copy of a moves text.
  *
- * Link with libsebdyqul.a (`rt staticlib sebdyqul` writes target/staticlib/libsebdyqul.a), on x86-64 Linux. Of the C library it
+ * Link with libsebdyqul.a (`rt lib` in crates/sebdyqul writes it to out/ there), on x86-64 Linux. Of the C library it
  * needs memcpy and memset alone. The functions keep nothing between calls and allocate nothing, so that calls may run at the same time
  * on buffers of their own.
  *

@@ -31,6 +31,7 @@ class LibraryExamples(unittest.TestCase):
     @classmethod
     def setUpClass(cls):
         build_archive()
+        TARGET.mkdir(exist_ok=True)
         cls.commands = COMMAND.findall(README.read_text())
         for command in cls.commands:
             subprocess.run(shlex.split(command), cwd=ROOT, check=True)
