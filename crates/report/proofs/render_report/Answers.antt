@@ -1,4 +1,6 @@
 -- `render_report` meets its contract: the tests decide whether all numbers are there and both listings fit. Assumes nothing.
+use mathlib.Core.Path.{ap}
+use mathlib.Core.Bool.{not}
 use Rattle.report.proofs.FitsLaw.{report_laws, both_within}
 use borrow.Author.Rules.{rules}
 use Rattle.report.proofs.render_report.Goals as goal
