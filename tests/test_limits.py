@@ -26,8 +26,8 @@ def definitions(path):
 
 
 def in_python(name):
-    """The name of a definition as the second reckoning has it: mostRate is MOST_RATE."""
-    return re.sub(r"(?=[A-Z])", "_", name).upper()
+    """The name of a definition as the second reckoning has it: most_rate is MOST_RATE."""
+    return name.upper()
 
 
 class Limits(unittest.TestCase):
