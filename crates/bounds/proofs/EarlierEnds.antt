@@ -3,9 +3,9 @@ use Rattle.std.specs.Prelude.{◌≡◌, Bool, ◌&&◌, leb, eqb}
 use Rattle.std.proofs.Math.Path.{refl}
 use Rattle.std.proofs.Common.{sym, arith, leb-true, eqb-true}
 use Rattle.std.proofs.Math.Bool.{true, false, cond}
-use Prim.Native.Nat.{ℕ, suc, ◌+◌, ◌*◌, ◌-◌, ◌≤◌, ◌<◌}
+use Prim.Native.Nat.{ℕ, suc, ◌*◌, ◌-◌, ◌≤◌, ◌<◌}
 use Rattle.std.proofs.lemmas.Bool.{eqb-false}
-use Rattle.csl.specs.Limits.{billion, rate_hundredths}
+use Rattle.csl.specs.Limits.{billion}
 use Rattle.csl.specs.Formula.{until_of, between_of}
 use Rattle.csl.specs.Chain.{Chain, top_rate, depth}
 use Rattle.csl.specs.Phase.{bit}
@@ -16,7 +16,7 @@ use Rattle.csl.proofs.Laws.BetweenEnds.{between_impossible, between_still_ends}
 use Rattle.csl.proofs.Laws.Decided.{all_decided, all_decided_lem}
 use Rattle.csl.proofs.Laws.Sum.{greatest_le}
 use Rattle.bounds.specs.Width.{most_depth}
-use Rattle.bounds.specs.StepValues.{StartedRounds, pointed, most_gap, gap_of, earlier_lower_of, earlier_upper_of, earlier_gap}
+use Rattle.bounds.specs.StepValues.{StartedRounds, pointed, most_gap, gap_of, earlier_gap}
 use Rattle.bounds.specs.Reading.{summed_lower, summed_upper}
 use Rattle.bounds.proofs.UntilEnds.{differ}
 use Rattle.bounds.specs.TwoPhases.{near_end}

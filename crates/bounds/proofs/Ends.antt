@@ -13,7 +13,7 @@ use Rattle.bounds.specs.Exact.{power, weight_bottom, weighted_sum, bottom_pos, b
 use Rattle.bounds.specs.Ladder.{ladder}
 use Rattle.bounds.specs.Weight.{peak, low, apart, Middle, low_most, low_below, low_above}
 use Rattle.bounds.specs.Unit.{unit, one, scale, grain, part}
-use Rattle.bounds.specs.Last.{last_from, last_within}
+use Rattle.bounds.specs.Last.{last_within}
 use Rattle.bounds.specs.Under.{sum_below, sum_above_lem, later_below, later_above, sums_below}
 use Rattle.bounds.specs.Ends.{LowerValues, gathered, last_step, lower_end, negligible, total}
 

@@ -1,6 +1,6 @@
 -- The ends and verdicts that the checker finds, as functions of the chain and the formula alone; and that they are a backing. So every
 -- job whose loads are in range has a report: the rules nowhere contradict each other. Assumes nothing.
-use Rattle.std.specs.Prelude.{◌≡◌, Bool, true, false, cond, ◌&&◌, leb, ltb, eqb}
+use Rattle.std.specs.Prelude.{◌≡◌, Bool, true, false, cond, ◌&&◌, leb, eqb}
 use Rattle.std.proofs.Math.Path.{refl}
 use Rattle.std.proofs.Common.{ap, sym, ◌∙◌, arith, leb-true, ne_eqb}
 use Rattle.std.proofs.lemmas.Bool.{false≢true, eqb-false}
@@ -11,14 +11,13 @@ use Rattle.csl.specs.Formula.{Comparison, Formula, always, label, negated, both,
 use Rattle.csl.specs.Formula.{phases_pass, paths_pass, paths_pass_in}
 use Rattle.csl.specs.Chain.{Chain, top_rate, load, depth}
 use Rattle.csl.specs.Phase.{Phase}
-use Rattle.csl.specs.Verdicts.{Verdict, No, Yes, marked, negation, conjunction, judged, as_no, as_yes, least, most}
+use Rattle.csl.specs.Verdicts.{Verdict, No, marked, judged, as_no, as_yes, least, most}
 use Rattle.csl.specs.Graph.{UntilPossible, UntilCertain, Enters, EntersOnly, AllDecided, Tells, Ruled}
 use Rattle.csl.specs.Until.{until_phase}
-use Rattle.csl.specs.Next.{next_lower, next_upper}
 use Rattle.csl.specs.Path.{meaning, FollowsAt}
 use Rattle.csl.specs.Ends.{EndsAt}
 use Rattle.csl.specs.Backing.{Backed, AtEach, PathBacked, ChanceKeeps}
-use Rattle.csl.specs.Report.{Reported, lower_of as plain_lower, upper_of as plain_upper}
+use Rattle.csl.specs.Report.{Reported}
 use Rattle.csl.specs.Refusal.{in_load}
 use Rattle.csl.proofs.Laws.NextEnds.{ends_next}
 use Rattle.csl.proofs.Laws.BetweenEnds.{until_between}
@@ -41,7 +40,7 @@ use Rattle.bounds.proofs.UntilEnds.{until_ends}
 use Rattle.bounds.specs.TwoPhases.{near_end}
 use Rattle.bounds.specs.EarlierEnds.{earlier_lower, earlier_upper}
 use Rattle.bounds.proofs.EarlierEnds.{earlier_ends}
-use Rattle.bounds.specs.Found.{found, found_in, certain_path, decided_path, lower_between, lower_found, lower_path, possible_path, possible_until, report_lower, report_upper, upper_between, upper_found, upper_path, verdict_path}
+use Rattle.bounds.specs.Found.{found, found_in, decided_path, lower_between, lower_found, lower_path, possible_path, report_lower, report_upper, upper_between, upper_found, upper_path, verdict_path}
 
 -- whatever rounded values are at hand, the ends are these
 cond_same : (a x y z : ℕ) (b : Bool) → eqb a 0 ≡ b → (0 < a → y ≡ z) → cond b x y ≡ cond b x z

@@ -4,17 +4,16 @@
 use Rattle.std.specs.Prelude.{◌≡◌, ℕ, ◌+◌, ◌*◌, ◌-◌, ◌/◌, ◌≤◌, ◌<◌}
 use Rattle.std.proofs.Common.{arith, le_of_mul-le-mul_right}
 use Rattle.numbers.specs.Hint.{le_times, div_low, div_high}
-use Rattle.csl.specs.Limits.{spare_steps}
-use Rattle.csl.specs.Fraction.{Fraction, frac, Below, billionths, round_up}
+use Rattle.csl.specs.Fraction.{Fraction, frac, Below, billionths}
 use Rattle.csl.specs.Chain.{Chain, top_rate}
 use Rattle.csl.specs.Phase.{Phase, divisor, step_top, step_value, quotient}
 use Rattle.csl.proofs.Laws.Steps.{Starts, step_le}
 use Rattle.csl.proofs.Laws.Left.{left_of, left_above}
 use Rattle.bounds.specs.Weight.{Middle}
 use Rattle.bounds.specs.Exact.{power}
-use Rattle.bounds.specs.Unit.{unit, one}
-use Rattle.bounds.specs.Ends.{lower_end, LowerValues}
-use Rattle.bounds.specs.Upper.{remaining, left_end, upper_end}
+use Rattle.bounds.specs.Unit.{one}
+use Rattle.bounds.specs.Ends.{LowerValues}
+use Rattle.bounds.specs.Upper.{remaining, left_end}
 use Rattle.bounds.proofs.Upper.{left_lower}
 use Rattle.bounds.specs.Width.{most_depth}
 use Rattle.bounds.proofs.Width.{width}

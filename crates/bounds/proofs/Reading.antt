@@ -13,9 +13,7 @@ use Rattle.csl.specs.Path.{AllDecided}
 use Rattle.csl.specs.Ends.{EndsAt}
 use Rattle.csl.proofs.Laws.Verdicts.{decided_same}
 use Rattle.csl.proofs.Laws.Quotient.{until_starts}
-use Rattle.bounds.specs.Ends.{lower_end}
 use Rattle.bounds.proofs.Ends.{end_most}
-use Rattle.bounds.specs.Upper.{upper_end}
 use Rattle.bounds.proofs.Upper.{left_same}
 use Rattle.bounds.specs.Width.{most_depth}
 use Rattle.bounds.specs.StepValues.{Rounds}

@@ -1,6 +1,6 @@
 -- A phase that starts a little higher: what its start lies above another's, its quotients lie above the other's at most. Nothing here rests on how
 -- quotients move with the depth. Assumes nothing.
-use Rattle.std.specs.Prelude.{◌≡◌, Bool, true, false}
+use Rattle.std.specs.Prelude.{Bool, true, false}
 use Prim.Native.Nat.{ℕ, zero, suc, ◌+◌, ◌*◌, ◌≤◌, ◌<◌}
 use native.Mathlib.Omega.{arith}
 use Rattle.std.proofs.Common.{mul-pos, le_of_mul-le-mul_right}

@@ -23,7 +23,6 @@ use Rattle.csl.proofs.Laws.Between.{until_bottoms}
 use Rattle.csl.proofs.Laws.Enclosure.{ordered_ends}
 use Rattle.bounds.specs.Unit.{unit}
 use Rattle.bounds.proofs.Ends.{end_most}
-use Rattle.bounds.specs.Upper.{upper_end}
 use Rattle.bounds.specs.Width.{most_depth}
 use Rattle.bounds.specs.StepValues.{settled, Runs, started_phase, StartedRounds, most_gap}
 use Rattle.bounds.specs.Rounded.{started_run, rounds_most}

@@ -2,7 +2,7 @@
 use Rattle.std.specs.Prelude.{◌≡◌, refl, Bool, true, false, cond, ℕ, ◌*◌, ◌≤◌, ◌<◌, eqb}
 use Rattle.std.proofs.Common.{ap, sym, ◌∙◌, arith, eqb-true}
 use Rattle.std.proofs.lemmas.Bool.{eqb-false}
-use Rattle.csl.specs.Limits.{billion, rate_hundredths}
+use Rattle.csl.specs.Limits.{billion}
 use Rattle.csl.specs.Formula.{until_of}
 use Rattle.csl.specs.Fraction.{frac, Same}
 use Rattle.csl.specs.Chain.{Chain, top_rate, depth}
@@ -14,7 +14,7 @@ use Rattle.csl.proofs.Laws.Verdicts.{decided_same}
 use Rattle.csl.proofs.Laws.PointQuotients.{until_still}
 use Rattle.csl.proofs.Laws.PointEnds.{ends_certain, ends_impossible}
 use Rattle.bounds.specs.Width.{most_depth}
-use Rattle.bounds.specs.StepValues.{Rounds, pointed, until_lower_of, until_upper_of}
+use Rattle.bounds.specs.StepValues.{Rounds, pointed}
 use Rattle.bounds.specs.Reading.{summed_lower, summed_upper}
 use Rattle.bounds.proofs.Reading.{summed_ends}
 use Rattle.bounds.specs.UntilEnds.{place, until_lower, until_upper}

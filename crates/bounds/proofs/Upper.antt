@@ -1,15 +1,14 @@
 -- The upper end of a phase, from what its lower values gather: they lack at most e at step 0 and a unit more for each step, so what they
 -- leave of 1, less that, lies below what the exact ones leave. Assumes nothing.
-use Rattle.std.specs.Prelude.{◌≡◌, refl, ℕ, zero, suc, ◌+◌, ◌*◌, ◌-◌, ◌/◌, ◌≤◌, ◌<◌}
+use Rattle.std.specs.Prelude.{◌≡◌, refl, ℕ, zero, suc, ◌+◌, ◌*◌, ◌-◌, ◌≤◌, ◌<◌}
 use Rattle.std.proofs.Common.{arith, le-div_iff_mul-le}
 use Rattle.numbers.specs.Hint.{le_times, div_low}
-use Rattle.csl.specs.Limits.{billion}
 use Rattle.csl.specs.Chain.{sum_to}
 use Rattle.bounds.specs.Weight.{low}
 use Rattle.bounds.specs.Unit.{one, scale, grain, part}
 use Rattle.bounds.specs.Ends.{total, last_step, gathered, lower_end}
 use Rattle.bounds.proofs.Ends.{total_peak, gathered_most, gathered_same}
-use Rattle.bounds.specs.Upper.{gatherable, left_end, remaining, upper_end}
+use Rattle.bounds.specs.Upper.{gatherable, left_end, remaining}
 
 pub gatherable_most : (a b m d e : ℕ) → gatherable a b m (last_step a b m d) e * grain ≤ total a b m d * one
 unfolding gatherable gathered

@@ -1,24 +1,11 @@
 -- The two ends of an until between two times at a state, by cases as the code decides them, keep the rules for ends. Assumes nothing.
-use Rattle.std.specs.Prelude.{◌≡◌, Bool, ◌&&◌, leb, eqb}
-use Rattle.std.proofs.Math.Path.{refl}
-use Rattle.std.proofs.Common.{sym, arith, leb-true, eqb-true}
-use Rattle.std.proofs.Math.Bool.{true, false, cond}
-use Prim.Native.Nat.{ℕ, suc, ◌+◌, ◌*◌, ◌-◌, ◌≤◌, ◌<◌}
-use Rattle.std.proofs.lemmas.Bool.{eqb-false}
-use Rattle.csl.specs.Limits.{billion, rate_hundredths}
-use Rattle.csl.specs.Formula.{until_of, between_of}
+use Rattle.std.specs.Prelude.{◌≡◌, Bool}
+use Rattle.std.proofs.Math.Bool.{true}
+use Prim.Native.Nat.{ℕ, ◌+◌, ◌*◌, ◌≤◌, ◌<◌}
+use Rattle.csl.specs.Limits.{rate_hundredths}
 use Rattle.csl.specs.Chain.{Chain, top_rate, depth}
-use Rattle.csl.specs.Phase.{bit}
-use Rattle.csl.specs.Verdicts.{Verdict, No, Yes, Undecided, as_no, as_yes, least, most}
-use Rattle.csl.specs.Ends.{EndsAt}
-use Rattle.csl.proofs.Laws.PointEnds.{still_lower_lem, still_upper_lem}
-use Rattle.csl.proofs.Laws.BetweenEnds.{between_impossible, between_still_ends}
-use Rattle.csl.proofs.Laws.Decided.{all_decided, all_decided_lem}
-use Rattle.csl.proofs.Laws.Sum.{greatest_le}
-use Rattle.bounds.specs.Width.{most_depth}
-use Rattle.bounds.specs.StepValues.{StartedRounds, pointed, most_gap, gap_of, earlier_lower_of, earlier_upper_of, earlier_gap}
-use Rattle.bounds.specs.Reading.{summed_lower, summed_upper}
-use Rattle.bounds.specs.TwoPhases.{near_end}
+use Rattle.csl.specs.Verdicts.{Verdict}
+use Rattle.bounds.specs.StepValues.{earlier_lower_of, earlier_upper_of, earlier_gap}
 
 -- the ends at state s of a phase over t hundredths of an hour, from the ends of the phase after it and the rounded values of its two readings; v are
 -- the first operand's verdicts

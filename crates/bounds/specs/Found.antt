@@ -1,41 +1,19 @@
 -- The ends and verdicts that the checker finds, as functions of the chain and the formula alone; and that they are a backing. So every
 -- job whose loads are in range has a report: the rules nowhere contradict each other. Assumes nothing.
-use Rattle.std.specs.Prelude.{◌≡◌, Bool, true, false, cond, ◌&&◌, leb, ltb, eqb}
-use Rattle.std.proofs.Math.Path.{refl}
-use Rattle.std.proofs.Common.{ap, sym, ◌∙◌, arith, leb-true, ne_eqb}
-use Rattle.std.proofs.lemmas.Bool.{false≢true, eqb-false}
-use Rattle.std.proofs.Math.Bool.{and-eq-true_iff}
-use Prim.Native.Nat.{ℕ, zero, suc, ◌+◌, ◌*◌, ◌-◌, ◌/◌, ◌≤◌, ◌<◌}
-use Rattle.csl.specs.Limits.{billion, rate_hundredths, most_rate_hundredths}
-use Rattle.csl.specs.Formula.{Comparison, Formula, always, label, negated, both, chance, Path, until, next_move, between, PathOf, until_of, next_of, between_of, path_of}
-use Rattle.csl.specs.Formula.{phases_pass, paths_pass, paths_pass_in}
-use Rattle.csl.specs.Chain.{Chain, top_rate, load, depth}
-use Rattle.csl.specs.Phase.{Phase}
-use Rattle.csl.specs.Verdicts.{Verdict, No, Yes, marked, negation, conjunction, judged, as_no, as_yes, least, most}
-use Rattle.csl.specs.Graph.{UntilPossible, UntilCertain, Enters, EntersOnly, AllDecided, Tells, Ruled}
+use Rattle.std.specs.Prelude.{Bool, false, cond, ◌&&◌, ltb, eqb}
+use Prim.Native.Nat.{ℕ, zero, suc, ◌-◌}
+use Rattle.csl.specs.Limits.{billion}
+use Rattle.csl.specs.Formula.{Comparison, Formula, always, label, negated, both, chance, Path, until, next_move, between, PathOf, until_of, next_of, between_of}
+use Rattle.csl.specs.Chain.{Chain}
+use Rattle.csl.specs.Verdicts.{Verdict, Yes, marked, negation, conjunction, judged, least, most}
 use Rattle.csl.specs.Until.{until_phase}
 use Rattle.csl.specs.Next.{next_lower, next_upper}
-use Rattle.csl.specs.Path.{meaning, FollowsAt}
-use Rattle.csl.specs.Ends.{EndsAt}
-use Rattle.csl.specs.Backing.{Backed, AtEach, PathBacked, ChanceKeeps}
-use Rattle.csl.specs.Report.{Reported, lower_of as plain_lower, upper_of as plain_upper}
-use Rattle.csl.specs.Refusal.{in_load}
-use Rattle.csl.proofs.Laws.NextEnds.{ends_next}
-use Rattle.csl.proofs.Laws.BetweenEnds.{until_between}
-use Rattle.csl.proofs.Laws.Decided.{all_decided, all_decided_lem, decided_all, all_decided_same}
-use Rattle.csl.proofs.Laws.Sum.{greatest_cong}
-use Rattle.csl.proofs.Laws.Ruled.{tells_itself}
-use Rattle.csl.proofs.Laws.Ruling.{ruled_verdict, verdict_ruled}
-use Rattle.csl.proofs.Laws.Search.{leads_in, leads_told}
-use Rattle.csl.proofs.Laws.NextGraph.{upper_tells, lower_tells}
-use Rattle.bounds.specs.Unit.{unit}
-use Rattle.bounds.specs.Upper.{upper_end}
-use Rattle.bounds.specs.Width.{most_depth}
-use Rattle.bounds.specs.StepValues.{RoundsFrom, Rounds, StartedRounds, pointed, most_gap, gap_of, earlier_gap}
-use Rattle.bounds.specs.Rounded.{rounded_from, rounded, started_rounded, rounded_from_lem, rounds_same}
-use Rattle.bounds.specs.Reading.{summed_lower, summed_upper}
+use Rattle.csl.specs.Report.{lower_of as plain_lower, upper_of as plain_upper}
+use Rattle.csl.proofs.Laws.Decided.{all_decided}
+use Rattle.csl.proofs.Laws.Ruling.{ruled_verdict}
+use Rattle.csl.proofs.Laws.Search.{leads_in}
+use Rattle.bounds.specs.Rounded.{rounded, started_rounded}
 use Rattle.bounds.specs.UntilEnds.{until_lower, until_upper}
-use Rattle.bounds.specs.TwoPhases.{near_end}
 use Rattle.bounds.specs.EarlierEnds.{earlier_lower, earlier_upper}
 
 -- the ends of an until over t hundredths of an hour at each state, where the operands have the verdicts v and w

@@ -1,23 +1,14 @@
 -- The two ends of a phase of a chain at one state, from one run of lower values that are known up to an error at step 0, for a load a / b
 -- with its greatest weight at step a / b, at the depth 2 × (a / b rounded up) + 40: the quotients from there on lie between them, and
 -- they are at most 2 × D and the error apart. Assumes nothing.
-use Rattle.std.specs.Prelude.{◌≡◌, ℕ, ◌+◌, ◌*◌, ◌-◌, ◌/◌, ◌≤◌, ◌<◌}
-use Rattle.std.proofs.Common.{arith, le_of_mul-le-mul_right}
-use Rattle.numbers.specs.Hint.{le_times, div_low, div_high}
+use Rattle.std.specs.Prelude.{ℕ, ◌+◌, ◌*◌, ◌/◌, ◌≤◌}
 use Rattle.csl.specs.Limits.{spare_steps}
-use Rattle.csl.specs.Fraction.{Fraction, frac, Below, billionths, round_up}
-use Rattle.csl.specs.Chain.{Chain, top_rate}
-use Rattle.csl.specs.Phase.{Phase, divisor, step_top, step_value, quotient}
-use Rattle.csl.proofs.Laws.Steps.{Starts, step_le}
-use Rattle.csl.proofs.Laws.Left.{left_of, left_above}
-use Rattle.bounds.specs.Weight.{Middle}
-use Rattle.bounds.specs.Exact.{power}
-use Rattle.bounds.specs.Unit.{unit, one}
-use Rattle.bounds.specs.Ends.{lower_end, LowerValues}
-use Rattle.bounds.specs.Upper.{remaining, left_end, upper_end}
-use Rattle.bounds.specs.Width.{most_depth}
-use Rattle.bounds.specs.StepValues.{Runs}
-use Rattle.bounds.specs.Rounded.{divisor_power, values_below}
+use Rattle.csl.specs.Fraction.{frac, Below, billionths, round_up}
+use Rattle.csl.specs.Chain.{Chain}
+use Rattle.csl.specs.Phase.{Phase, step_value, quotient}
+use Rattle.bounds.specs.Unit.{unit}
+use Rattle.bounds.specs.Ends.{lower_end}
+use Rattle.bounds.specs.Upper.{upper_end}
 
 -- from twice the load rounded up each weight is at most half the one before
 abbrev pub reach : ℕ → ℕ → ℕ

@@ -1,17 +1,10 @@
 -- A phase that starts a little higher: what its start lies above another's, its quotients lie above the other's at most. Nothing here rests on how
 -- quotients move with the depth. Assumes nothing.
-use Rattle.std.specs.Prelude.{◌≡◌, Bool, true, false}
-use Prim.Native.Nat.{ℕ, zero, suc, ◌+◌, ◌*◌, ◌≤◌, ◌<◌}
-use native.Mathlib.Omega.{arith}
-use Rattle.std.proofs.Common.{mul-pos, le_of_mul-le-mul_right}
-use Rattle.numbers.specs.Hint.{le_times, eq_times}
-use Rattle.csl.specs.Limits.{billion}
-use Rattle.csl.specs.Fraction.{Fraction, frac, Below, Same, plus, billionths}
-use Rattle.csl.specs.Chain.{Chain, top_rate}
-use Rattle.csl.specs.Phase.{Phase, moved, divisor, stepped, step_top, step_value, quotient}
-use Rattle.bounds.specs.Exact.{power, weighted_sum, weighted_shift}
-use Rattle.bounds.specs.Moved.{moved_shift}
-use Rattle.bounds.specs.Rounded.{running, divisor_power}
+use Rattle.std.specs.Prelude.{◌≡◌, false}
+use Prim.Native.Nat.{ℕ, ◌<◌}
+use Rattle.csl.specs.Fraction.{frac, Below, plus, billionths}
+use Rattle.csl.specs.Chain.{Chain}
+use Rattle.csl.specs.Phase.{Phase}
 
 -- two phases that hold 0 at the same states and 1 at none, the start of the one at most e billionths above that of the other
 pub record StartsNear (c : Chain) (ph ph' : Phase) (e : ℕ) : Type 0 where

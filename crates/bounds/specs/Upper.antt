@@ -1,13 +1,11 @@
 -- The upper end of a phase, from what its lower values gather: they lack at most e at step 0 and a unit more for each step, so what they
 -- leave of 1, less that, lies below what the exact ones leave. Assumes nothing.
-use Rattle.std.specs.Prelude.{◌≡◌, refl, ℕ, zero, suc, ◌+◌, ◌*◌, ◌-◌, ◌/◌, ◌≤◌, ◌<◌}
-use Rattle.std.proofs.Common.{arith, le-div_iff_mul-le}
-use Rattle.numbers.specs.Hint.{le_times, div_low}
+use Rattle.std.specs.Prelude.{ℕ, suc, ◌+◌, ◌*◌, ◌-◌, ◌/◌}
 use Rattle.csl.specs.Limits.{billion}
 use Rattle.csl.specs.Chain.{sum_to}
 use Rattle.bounds.specs.Weight.{low}
-use Rattle.bounds.specs.Unit.{one, scale, grain, part}
-use Rattle.bounds.specs.Ends.{total, last_step, gathered, lower_end}
+use Rattle.bounds.specs.Unit.{one, scale, part}
+use Rattle.bounds.specs.Ends.{total, last_step, gathered}
 
 -- what a value v of step k leaves of 1 at least, where it is at most e + k too low
 abbrev pub remaining : ℕ → ℕ → ℕ → ℕ

@@ -1,21 +1,21 @@
 -- A labels text that is written of names and of where labels hold: it is read back as these, and its layout is right. Assumes nothing.
-use Rattle.std.specs.Prelude.{◌≡◌, Bool, cond, ◌&&◌, ◌||◌, get_or, eqb, leb}
+use Rattle.std.specs.Prelude.{◌≡◌, Bool, ◌&&◌, eqb, leb}
 use Rattle.std.proofs.Math.Path.{refl, ap}
-use Rattle.std.proofs.Common.{sym, ◌∙◌, length-append}
+use Rattle.std.proofs.Common.{sym, ◌∙◌}
 use Rattle.std.proofs.Math.Bool.{true, false, not, and-eq-true_iff}
-use mathlib.Core.List.{List, [], ◌∷◌, ◌++◌, map, head_d, tail}
+use mathlib.Core.List.{List, [], ◌∷◌, ◌++◌, map, head_d}
 use Prim.Native.Nat.{ℕ, zero, suc, ◌+◌, ◌^◌, ◌≤◌, ◌<◌}
 use native.Mathlib.Omega.{arith}
 use Rattle.std.proofs.Math.ListN.{length}
 use borrow.Author.Tests.{eq-eqb, ne_eqb, leb-true}
 use Rattle.csl.specs.Text.{Text, bytes, same, every}
-use Rattle.csl.specs.Limits.{sheet_digits, most_letters}
+use Rattle.csl.specs.Limits.{most_letters}
 use Rattle.csl.specs.Line.{line_feed, comma, lines_of, first_line, later_lines, is_ended, fields_of}
-use Rattle.csl.specs.Number.{is_number, value_of}
+use Rattle.csl.specs.Number.{value_of}
 use Rattle.csl.specs.Labels.{is_letter, is_word, names_of, is_mark, state_line, labels_layout, in_turn, states_of, mark_at}
 use Rattle.csl.specs.Order.{by_number}
 use Rattle.csl.specs.Report.{decimal}
-use Rattle.csl.specs.Import.{ended_text, fields_text, mark_text, state_text, labels_text}
+use Rattle.csl.specs.Import.{fields_text, mark_text, state_text, labels_text}
 use Rattle.same_chain.specs.Digits.{every_append, value_decimal, decimal_number}
 use Rattle.same_chain.specs.Joined.{free}
 use Rattle.same_chain.specs.MovesText.{digits_free}

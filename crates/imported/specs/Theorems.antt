@@ -1,14 +1,14 @@
 -- What follows for imports of PRISM's files: what is imported passes a typed sheet's tests, and says what the files say. Nothing here speaks of a
 -- program. Assumes nothing.
-use Rattle.std.specs.Prelude.{◌≡◌, Bool, false, cond, not, ◌&&◌, ◌||◌, length, get_or, eqb, leb, ltb}
+use Rattle.std.specs.Prelude.{◌≡◌, false, not, ◌&&◌, ◌||◌, length, get_or, eqb, ltb}
 use Rattle.std.proofs.Math.Path.{refl}
 use Rattle.std.proofs.Common.{sym, ◌∙◌, arith, length-append}
 use Rattle.std.proofs.Math.Bool.{true, and-eq-true_iff}
 use mathlib.Core.List.{List, [], ◌∷◌, ◌++◌}
-use Rattle.std.proofs.Math.Option.{Option, none}
-use Prim.Native.Nat.{ℕ, suc, ◌+◌, ◌^◌, ◌≤◌, ◌<◌}
-use borrow.Author.Tests.{not-false, eqb-true, ne_eqb, ltb-false, le-ltb}
-use Rattle.csl.specs.Text.{Text, bytes, every, any}
+use Rattle.std.proofs.Math.Option.{none}
+use Prim.Native.Nat.{ℕ, ◌^◌, ◌≤◌, ◌<◌}
+use borrow.Author.Tests.{not-false, eqb-true, ne_eqb}
+use Rattle.csl.specs.Text.{Text, bytes, every}
 use Rattle.csl.specs.Limits.{sheet_digits, sheet_bytes}
 use Rattle.csl.specs.Number.{is_number, value_of}
 use Rattle.csl.specs.Line.{line_feed, first_line, later_lines, is_ended}
@@ -18,7 +18,7 @@ use Rattle.csl.specs.Refusal.{out_of_bytes, broken_layout, strange_state, three_
 use Rattle.csl.specs.Copy.{moves_text, lines_text}
 use Rattle.csl.specs.Import.{Files, words_of, numbers_line, transitions_layout, states_counted, transitions_counted, transitions_of, quoted_names, label_lines, label_file_layout, holds_at, ended_text, fields_text, labels_text, imported_moves, imported_labels, miscounts, file_tests, result_tests, import_refusal}
 use Rattle.csl.proofs.Laws.Decimal.{number_below}
-use Rattle.accepted.specs.Order.{neither, NoneHolds, first_none, none_first, first_after, none_left, none_right}
+use Rattle.accepted.specs.Order.{neither, NoneHolds, first_none, none_left, none_right}
 use Rattle.same_chain.specs.MovesText.{moves_read}
 use Rattle.imported.specs.Moves.{imported_layout}
 use Rattle.imported.specs.Labels as labels

@@ -7,7 +7,6 @@ use mathlib.Core.List.{List, [], ◌∷◌, ◌++◌}
 use Prim.Native.Nat.{ℕ, zero, suc, ◌+◌, ◌/◌, ◌^◌, ◌≤◌, ◌<◌}
 use native.Mathlib.Omega.{arith}
 use Rattle.std.proofs.Math.Dec.{eqb}
-use Rattle.csl.specs.Text.{bytes}
 use Rattle.csl.specs.Line.{line_feed, comma}
 use Rattle.csl.specs.Moves.{Move, rate_in}
 use Rattle.csl.specs.Chain.{sum_to}

@@ -1,6 +1,5 @@
 -- `check` meets its contract. Assumes nothing.
 use Rattle.checker.proofs.CheckLaw.{too_long, sheet_turned, sheet_ready}
-use borrow.Author.Rules.{rules}
 use Rattle.checker.proofs.check.Goals as goal
 
 pub check_formula-requires : goal.check_formula-requires

@@ -1,6 +1,5 @@
 -- `check_formula` meets its contract. Assumes nothing.
 use Rattle.checker.proofs.CheckLaw.{line_right, names_counted, formula_turned, may_measure, short_turned, report_asked, job_reported}
-use borrow.Author.Rules.{rules}
 use Rattle.checker.proofs.check_formula.Goals as goal
 
 pub names_part-names-requires : goal.names_part-names-requires

@@ -1,10 +1,6 @@
 -- `copy` meets its contract: the tests, the moves laid, and their copy. Assumes nothing.
-use mathlib.Core.Path.{sym}
-use Prim.Native.Nat.{◌≤◌}
-use native.Mathlib.Omega.{arith}
-use lib.Seq.{length-take-le}
 use borrow.Author.Rules.{rules}
-use Rattle.clean_copy.proofs.CopyLaw.{copy_laws, few_moves, copy_made}
+use Rattle.clean_copy.proofs.CopyLaw.{copy_laws, copy_made}
 use Rattle.clean_copy.proofs.copy.Goals as goal
 
 pub lay-requires : goal.lay-requires

@@ -12,7 +12,7 @@ use Rattle.csl.specs.Path.{SidesAt}
 use Rattle.csl.specs.Backing.{AtEach, ChanceKeeps, operands_of}
 use Rattle.csl.specs.Report.{Reported, lower_of, upper_of, report_text}
 use Rattle.csl.specs.Refusal.{job_chain}
-use Rattle.csl.specs.Bench.{small, still, up, negated_times, Prints, BenchValues, DecimalHours, SecondListing}
+use Rattle.csl.specs.Bench.{small, still, negated_times, Prints, BenchValues, DecimalHours, SecondListing}
 use Rattle.csl.proofs.Laws.Computing.{computing}
 use Rattle.csl.proofs.Laws.Listing.{report_same}
 use Rattle.csl.proofs.Laws.PointEnds.{still_lower_lem, still_upper_lem}

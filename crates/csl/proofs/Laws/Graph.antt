@@ -1,7 +1,7 @@
 -- What the moves say of a path is what its probability is: possible is more than 0, and certain is 1. Assumes nothing.
 use Rattle.std.proofs.Math.Path.{◌≡◌, refl}
 use Rattle.std.proofs.Common.{sym, ap, ◌∙◌, arith, mul-le-mul_right, ltb-true, ltb-false, ne_eqb}
-use Rattle.std.specs.Prelude.{Bool, ◌⊎◌, ℕ, zero, suc, ◌*◌, ◌≤◌, ◌<◌, eqb, ltb}
+use Rattle.std.specs.Prelude.{Bool, ℕ, zero, suc, ◌*◌, ◌≤◌, ◌<◌, eqb, ltb}
 use Rattle.std.proofs.Math.Bool.{true, false, cond}
 use Rattle.std.proofs.Math.Logic.{⊎_elim}
 use Rattle.std.proofs.lemmas.Bool.{eqb-false}

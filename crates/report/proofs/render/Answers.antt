@@ -1,7 +1,6 @@
 -- `render` meets its contract: each arm by its case. Assumes nothing.
 use Rattle.report.specs.Listing.{listings}
 use Rattle.report.specs.Rendering.{fits}
-use borrow.Author.Rules.{rules}
 use Rattle.report.proofs.render.Goals as goal
 
 pub returns-in-Accepted : goal.returns-in-Accepted

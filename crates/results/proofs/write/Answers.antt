@@ -1,7 +1,6 @@
 -- `write` meets its contract. Assumes nothing.
-use Prim.Native.Nat.{◌-◌}
 use borrow.Author.Rules.{rules}
-use Rattle.results.proofs.WriteLaw.{Writing, write_laws}
+use Rattle.results.proofs.WriteLaw.{write_laws}
 use Rattle.results.proofs.write.Goals as goal
 
 pub loop-s-init : goal.loop-s-init

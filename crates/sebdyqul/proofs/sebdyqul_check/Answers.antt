@@ -1,6 +1,5 @@
 -- `sebdyqul_check` meets its contract: what the checker promises, told by a number and a depth. Assumes nothing.
 use Rattle.sebdyqul.proofs.CalledLaw.{accepted_called, refused_called}
-use borrow.Author.Rules.{rules}
 use Rattle.sebdyqul.proofs.sebdyqul_check.Goals as goal
 
 pub returns-in-Accepted : goal.returns-in-Accepted

@@ -1,6 +1,6 @@
 -- `falling` meets its contract. Assumes nothing.
 use borrow.Author.Rules.{rules}
-use Rattle.weights.proofs.FallingLaw.{Inv, falling_laws}
+use Rattle.weights.proofs.FallingLaw.{falling_laws}
 use Rattle.weights.proofs.falling.Goals as goal
 
 pub overflow_add-words : goal.overflow_add-words

@@ -1,6 +1,5 @@
 -- `falling` meets its contract. Assumes nothing.
-use borrow.Author.Rules.{rules}
-use Rattle.weights.proofs.FallingLaw.{Inv, falling_laws}
+use Rattle.weights.proofs.FallingLaw.{Inv}
 use Rattle.weights.proofs.falling.Given as goal
 
 abbrev pub invariant-loop-k : goal.invariant-loop-k

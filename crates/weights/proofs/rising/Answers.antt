@@ -1,7 +1,6 @@
 -- `rising` meets its contract. Assumes nothing.
 use borrow.Author.Rules.{rules}
-use Prim.Native.Nat.{◌-◌}
-use Rattle.weights.proofs.RisingLaw.{Inv, rising_laws}
+use Rattle.weights.proofs.RisingLaw.{rising_laws}
 use Rattle.weights.proofs.rising.Goals as goal
 
 pub loop-k-init : goal.loop-k-init

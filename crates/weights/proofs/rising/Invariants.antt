@@ -1,7 +1,6 @@
 -- `rising` meets its contract. Assumes nothing.
-use borrow.Author.Rules.{rules}
 use Prim.Native.Nat.{◌-◌}
-use Rattle.weights.proofs.RisingLaw.{Inv, rising_laws}
+use Rattle.weights.proofs.RisingLaw.{Inv}
 use Rattle.weights.proofs.rising.Given as goal
 
 abbrev pub invariant-loop-k : goal.invariant-loop-k

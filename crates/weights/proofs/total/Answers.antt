@@ -1,7 +1,6 @@
 -- `total` meets its contract. Assumes nothing.
 use borrow.Author.Rules.{rules}
-use Prim.Native.Nat.{◌+◌, ◌-◌}
-use Rattle.weights.proofs.TotalLaw.{Inv, total_laws}
+use Rattle.weights.proofs.TotalLaw.{total_laws}
 use Rattle.weights.proofs.total.Goals as goal
 
 pub overflow_add-from : goal.overflow_add-from

@@ -1,7 +1,6 @@
 -- `total` meets its contract. Assumes nothing.
-use borrow.Author.Rules.{rules}
 use Prim.Native.Nat.{◌+◌, ◌-◌}
-use Rattle.weights.proofs.TotalLaw.{Inv, total_laws}
+use Rattle.weights.proofs.TotalLaw.{Inv}
 use Rattle.weights.proofs.total.Given as goal
 
 abbrev pub invariant-loop-k : goal.invariant-loop-k

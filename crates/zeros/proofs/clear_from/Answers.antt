@@ -1,8 +1,7 @@
 -- `clear_from` meets its contract. Assumes nothing.
 use borrow.Author.Rules.{rules}
-use Prim.Native.Nat.{◌-◌}
 use Rattle.numbers.specs.Filled.{filled_laws}
-use Rattle.zeros.proofs.ClearLaw.{Inv, clear_laws}
+use Rattle.zeros.proofs.ClearLaw.{clear_laws}
 use Rattle.zeros.proofs.clear_from.Goals as goal
 
 pub loop-i-init : goal.loop-i-init

@@ -1,8 +1,6 @@
 -- `clear_from` meets its contract. Assumes nothing.
-use borrow.Author.Rules.{rules}
 use Prim.Native.Nat.{◌-◌}
-use Rattle.numbers.specs.Filled.{filled_laws}
-use Rattle.zeros.proofs.ClearLaw.{Inv, clear_laws}
+use Rattle.zeros.proofs.ClearLaw.{Inv}
 use Rattle.zeros.proofs.clear_from.Given as goal
 
 abbrev pub invariant-loop-i : goal.invariant-loop-i

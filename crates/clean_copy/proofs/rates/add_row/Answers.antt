@@ -1,8 +1,7 @@
 -- `add_row` meets its contract. Assumes nothing.
-use Prim.Native.Nat.{◌-◌}
 use native.Mathlib.Omega.{arith}
 use borrow.Author.Rules.{rules}
-use Rattle.clean_copy.proofs.RatesLaw.{Adding, add_laws, in_totals, next_fits}
+use Rattle.clean_copy.proofs.RatesLaw.{add_laws, in_totals, next_fits}
 use Rattle.clean_copy.proofs.rates.add_row.Goals as goal
 
 pub loop-j-init : goal.loop-j-init

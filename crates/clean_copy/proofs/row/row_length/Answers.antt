@@ -1,7 +1,6 @@
 -- `row_length` meets its contract. Assumes nothing.
-use Prim.Native.Nat.{◌-◌}
 use borrow.Author.Rules.{rules}
-use Rattle.clean_copy.proofs.RowLaw.{Measured, measure_laws}
+use Rattle.clean_copy.proofs.RowLaw.{measure_laws}
 use Rattle.clean_copy.proofs.row.row_length.Goals as goal
 
 pub loop-to-init : goal.loop-to-init

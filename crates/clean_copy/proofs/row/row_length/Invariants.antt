@@ -1,7 +1,6 @@
 -- `row_length` meets its contract. Assumes nothing.
 use Prim.Native.Nat.{◌-◌}
-use borrow.Author.Rules.{rules}
-use Rattle.clean_copy.proofs.RowLaw.{Measured, measure_laws}
+use Rattle.clean_copy.proofs.RowLaw.{Measured}
 use Rattle.clean_copy.proofs.row.row_length.Given as goal
 
 abbrev pub invariant-loop-to : goal.invariant-loop-to

@@ -1,7 +1,6 @@
 -- `write_row` meets its contract. Assumes nothing.
 use Prim.Native.Nat.{◌-◌}
-use borrow.Author.Rules.{rules}
-use Rattle.clean_copy.proofs.RowLaw.{Writing, write_laws}
+use Rattle.clean_copy.proofs.RowLaw.{Writing}
 use Rattle.clean_copy.proofs.row.write_row.Given as goal
 
 abbrev pub invariant-loop-to : goal.invariant-loop-to

@@ -1,8 +1,7 @@
 -- `copy_length` meets its contract. Assumes nothing.
-use Prim.Native.Nat.{◌-◌}
 use native.Mathlib.Omega.{arith}
 use borrow.Author.Rules.{rules}
-use Rattle.clean_copy.proofs.WholeLaw.{Visiting, visit_laws, Measured, measure_laws, measure_next}
+use Rattle.clean_copy.proofs.WholeLaw.{visit_laws, measure_laws, measure_next}
 use Rattle.clean_copy.proofs.whole.copy_length.Goals as goal
 
 pub loop-s-init : goal.loop-s-init

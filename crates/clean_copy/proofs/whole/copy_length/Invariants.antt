@@ -1,8 +1,6 @@
 -- `copy_length` meets its contract. Assumes nothing.
 use Prim.Native.Nat.{◌-◌}
-use native.Mathlib.Omega.{arith}
-use borrow.Author.Rules.{rules}
-use Rattle.clean_copy.proofs.WholeLaw.{Visiting, visit_laws, Measured, measure_laws, measure_next}
+use Rattle.clean_copy.proofs.WholeLaw.{Visiting, Measured}
 use Rattle.clean_copy.proofs.whole.copy_length.Given as goal
 
 abbrev pub invariant-loop-s : goal.invariant-loop-s

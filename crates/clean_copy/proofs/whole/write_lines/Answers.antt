@@ -1,8 +1,7 @@
 -- `write_lines` meets its contract. Assumes nothing.
-use Prim.Native.Nat.{◌-◌}
 use native.Mathlib.Omega.{arith}
 use borrow.Author.Rules.{rules}
-use Rattle.clean_copy.proofs.WholeLaw.{Visiting, visit_laws, Writing, write_laws, write_next}
+use Rattle.clean_copy.proofs.WholeLaw.{visit_laws, write_laws, write_next}
 use Rattle.clean_copy.proofs.whole.write_lines.Goals as goal
 
 pub loop-s-init : goal.loop-s-init

@@ -1,8 +1,6 @@
 -- `write_lines` meets its contract. Assumes nothing.
 use Prim.Native.Nat.{◌-◌}
-use native.Mathlib.Omega.{arith}
-use borrow.Author.Rules.{rules}
-use Rattle.clean_copy.proofs.WholeLaw.{Visiting, visit_laws, Writing, write_laws, write_next}
+use Rattle.clean_copy.proofs.WholeLaw.{Visiting, Writing}
 use Rattle.clean_copy.proofs.whole.write_lines.Given as goal
 
 abbrev pub invariant-loop-s : goal.invariant-loop-s

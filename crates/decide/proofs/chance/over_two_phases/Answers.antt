@@ -1,6 +1,5 @@
 -- `over_two_phases` meets its contract. Assumes nothing.
 use Rattle.decide.proofs.TwoPhasesLaw.{may_earlier, may_judge_pair, pair_row, two_phases_left}
-use borrow.Author.Rules.{rules}
 use Rattle.decide.proofs.chance.over_two_phases.Goals as goal
 
 pub earlier-earlier-requires : goal.earlier-earlier-requires

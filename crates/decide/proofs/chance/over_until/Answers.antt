@@ -1,6 +1,5 @@
 -- `over_until` meets its contract. Assumes nothing.
 use Rattle.decide.proofs.UntilLaw.{may_judge, until_left_in}
-use borrow.Author.Rules.{rules}
 use Rattle.decide.proofs.chance.over_until.Goals as goal
 
 pub until-requires : goal.until-requires

@@ -1,5 +1,4 @@
 -- `label` meets its contract. Assumes nothing.
-use borrow.Author.Rules.{rules}
 use Rattle.decide.proofs.LeftLaw.{label_left}
 use Rattle.decide.proofs.plain.label.Goals as goal
 

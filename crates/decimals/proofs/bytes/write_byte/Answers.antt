@@ -1,7 +1,6 @@
 -- `write_byte` meets its contract. Assumes nothing.
 use native.Mathlib.Omega.{arith}
 use Rattle.decimals.specs.Writing.{wrote_byte}
-use borrow.Author.Rules.{rules}
 use Rattle.decimals.proofs.bytes.write_byte.Goals as goal
 
 pub returns : goal.returns

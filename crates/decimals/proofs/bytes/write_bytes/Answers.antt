@@ -1,10 +1,8 @@
 -- `write_bytes` meets its contract. The invariant: the first i bytes of the text are written. Assumes nothing.
 use borrow.Author.Rules.{rules}
 use native.Mathlib.Omega.{arith}
-use mathlib.Core.Path.{◌≡◌, refl}
-use Prim.Native.Nat.{◌≤◌, ◌+◌, ◌-◌}
-use lib.ListN.{length, take, length-set}
-use Rattle.decimals.specs.Place.{Wrote}
+use mathlib.Core.Path.{refl}
+use lib.ListN.{length-set}
 use Rattle.decimals.proofs.BytesLaw.{copy_none, copy_more, copy_all}
 use Rattle.decimals.proofs.bytes.write_bytes.Goals as goal
 

@@ -1,10 +1,8 @@
 -- `decimal_length` meets its contract. The invariant: the digits counted and those of the rest are one more than the number has. Assumes nothing.
-use native.Mathlib.Omega.{arith}
 use mathlib.Core.Path.{◌≡◌}
 use Prim.Native.Nat.{◌+◌}
 use lib.ListN.{length}
 use Rattle.csl.specs.Report.{decimal}
-use Rattle.csl.proofs.Laws.Decimal.{length_one, length_more, length_some, length_within}
 use Rattle.decimals.proofs.number.decimal_length.Given as goal
 
 abbrev pub invariant-loop-rest : goal.invariant-loop-rest

@@ -2,9 +2,7 @@
 use native.Mathlib.Omega.{arith}
 use mathlib.Core.Path.{refl}
 use borrow.Author.Rules.{rules}
-use Rattle.csl.specs.Line.{comma, space, parts}
-use Rattle.texts.specs.Behind.{parts_behind}
-use Rattle.formula.proofs.LayLaw.{Underway, lay_place, lay_laws}
+use Rattle.formula.proofs.LayLaw.{lay_place, lay_laws}
 use Rattle.formula.proofs.lay.lay.Goals as goal
 
 pub loop-left-init : goal.loop-left-init

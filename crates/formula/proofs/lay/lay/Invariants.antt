@@ -1,10 +1,7 @@
 -- `lay` meets its contract. Assumes nothing.
-use native.Mathlib.Omega.{arith}
-use mathlib.Core.Path.{refl}
-use borrow.Author.Rules.{rules}
 use Rattle.csl.specs.Line.{comma, space, parts}
 use Rattle.texts.specs.Behind.{parts_behind}
-use Rattle.formula.proofs.LayLaw.{Underway, lay_place, lay_laws}
+use Rattle.formula.proofs.LayLaw.{Underway}
 use Rattle.formula.proofs.lay.lay.Given as goal
 
 abbrev pub invariant-loop-left : goal.invariant-loop-left

@@ -1,12 +1,7 @@
 -- `all_pass` meets its contract. Assumes nothing.
 use borrow.Author.Rules.{rules}
 use native.Mathlib.Omega.{arith}
-use Prim.Native.Nat.{◌≤◌, ◌-◌}
-use mathlib.Core.Path.{◌≡◌, sym, ◌∙◌}
-use borrow.Author.Tests.{not-true, not-false}
-use mathlib.Core.Bool.{true}
-use Rattle.csl.specs.Limits.{most_nodes}
-use Rattle.formula.specs.Pass.{all_below, place_passed}
+use mathlib.Core.Path.{sym, ◌∙◌}
 use Rattle.formula.proofs.PassLaw.{below_none, below_next, below_fails}
 use Rattle.formula.proofs.pass.all_pass.Goals as goal
 

@@ -1,5 +1,4 @@
 -- `hours_pass` meets its contract. Assumes nothing.
-use borrow.Author.Rules.{rules}
 use Rattle.formula.proofs.pass.hours_pass.Goals as goal
 
 pub returns-in-Until : goal.returns-in-Until

@@ -1,5 +1,4 @@
 -- `in_order` meets its contract. Assumes nothing.
-use borrow.Author.Rules.{rules}
 use Rattle.formula.proofs.pass.in_order.Goals as goal
 
 pub returns-in-Between : goal.returns-in-Between

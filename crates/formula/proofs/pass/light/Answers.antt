@@ -1,6 +1,5 @@
 -- `light` meets its contract. Assumes nothing.
 use Rattle.formula.proofs.PassLaw.{light_none, light_some}
-use borrow.Author.Rules.{rules}
 use Rattle.formula.proofs.pass.light.Goals as goal
 
 pub returns-then-rate-eq0 : goal.returns-then-rate-eq0

@@ -1,5 +1,4 @@
 -- `load_passes` meets its contract. Assumes nothing.
-use borrow.Author.Rules.{rules}
 use Rattle.formula.proofs.pass.load_passes.Goals as goal
 
 pub returns-in-Until : goal.returns-in-Until

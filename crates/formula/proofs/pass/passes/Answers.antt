@@ -1,5 +1,4 @@
 -- `passes` meets its contract. Assumes nothing.
-use borrow.Author.Rules.{rules}
 use Rattle.formula.proofs.pass.passes.Goals as goal
 
 pub returns-in-Label : goal.returns-in-Label

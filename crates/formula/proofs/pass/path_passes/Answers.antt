@@ -1,7 +1,6 @@
 -- `path_passes` meets its contract. Assumes nothing.
 use borrow.Author.Tests.{le-leb, lt-leb}
 use Rattle.csl.specs.Limits.{most_threshold}
-use borrow.Author.Rules.{rules}
 use Rattle.formula.proofs.pass.path_passes.Goals as goal
 
 pub returns-then-threshold-le-MOST_THRESHOLD : goal.returns-then-threshold-le-MOST_THRESHOLD

@@ -1,5 +1,4 @@
 -- `place_passes` meets its contract. Assumes nothing.
-use borrow.Author.Rules.{rules}
 use Rattle.formula.proofs.pass.place_passes.Goals as goal
 
 pub returns-in-Labels : goal.returns-in-Labels

@@ -6,7 +6,6 @@ use Rattle.formula.proofs.ReadLaw.{read_none, read_many, read_few}
 use native.Mathlib.Omega.{arith}
 use mathlib.Core.Path.{sym}
 use lib.Seq.{length-take-le}
-use borrow.Author.Rules.{rules}
 use Rattle.formula.proofs.reading.read.Goals as goal
 
 pub returns-then-not-e : goal.returns-then-not-e

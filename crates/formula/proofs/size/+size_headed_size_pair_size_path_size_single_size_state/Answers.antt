@@ -2,8 +2,6 @@
 -- `PairLaw`. Assumes nothing.
 use borrow.Author.Rules.{rules}
 use native.Mathlib.Omega.{arith}
-use Prim.Native.Nat.{ℕ, ◌+◌, ◌*◌, ◌<◌}
-use lib.ListN.{length}
 use Rattle.grammar.specs.Tokens.{token_within, one_within, two_within, three_within}
 use Rattle.formula.proofs.PairLaw.{single_asks, single_one, pair_wrong, pair_two, pair_asks, path_wrong, path_until, path_next, path_between}
 use Rattle.formula.proofs.HeadedLaw.{headed_other, headed_truth, headed_name, headed_bang, headed_ampersand, headed_unbound, headed_chance, state_read}

@@ -1,6 +1,5 @@
 -- `over_one` meets its contract. Assumes nothing.
 use native.Mathlib.Omega.{arith}
-use borrow.Author.Rules.{rules}
 use Rattle.formula.proofs.size.over_one.Goals as goal
 
 pub overflow_add-result : goal.overflow_add-result

@@ -1,6 +1,5 @@
 -- `over_two` meets its contract. Assumes nothing.
 use native.Mathlib.Omega.{arith}
-use borrow.Author.Rules.{rules}
 use Rattle.formula.proofs.size.over_two.Goals as goal
 
 pub overflow_add-result : goal.overflow_add-result

@@ -2,7 +2,6 @@
 use native.Mathlib.Omega.{arith}
 use mathlib.Core.Path.{ap}
 use Rattle.formula.specs.declared.waiting.Waiting.{Waiting}
-use borrow.Author.Rules.{rules}
 use Rattle.formula.proofs.waiting.with_two.Goals as goal
 
 pub with_place-requires-2 : goal.with_place-requires-2

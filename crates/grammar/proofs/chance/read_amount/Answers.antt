@@ -1,6 +1,5 @@
 -- `read_amount` meets its contract. Assumes nothing.
 use Rattle.grammar.proofs.AmountLaw.{amount_bad, amount_short, amount_whole, amount_fits}
-use borrow.Author.Rules.{rules}
 use Rattle.grammar.proofs.chance.read_amount.Goals as goal
 
 pub returns-in-Bad : goal.returns-in-Bad

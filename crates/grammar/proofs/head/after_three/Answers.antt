@@ -1,5 +1,4 @@
 -- `after_three` meets its contract. Assumes nothing.
-use borrow.Author.Rules.{rules}
 use Rattle.grammar.proofs.head.after_three.Goals as goal
 
 pub returns : goal.returns

@@ -1,5 +1,4 @@
 -- `decimals_of` meets its contract, by the laws of `HoursLaw`. Assumes nothing.
-use borrow.Author.Rules.{rules}
 use native.Mathlib.Omega.{arith}
 use Rattle.grammar.proofs.HoursLaw.{decimals_are, first_there, first_range, second_range, tenths_alone, tenths_and_more}
 use Rattle.grammar.proofs.hours.decimals_of.Goals as goal

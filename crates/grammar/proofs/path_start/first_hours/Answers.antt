@@ -1,5 +1,4 @@
 -- `first_hours` meets its contract. Assumes nothing.
-use borrow.Author.Rules.{rules}
 use Rattle.grammar.proofs.path_start.first_hours.Goals as goal
 
 pub returns : goal.returns

@@ -1,5 +1,4 @@
 -- `facts_of` meets its contract. Assumes nothing.
-use borrow.Author.Rules.{rules}
 use Rattle.labels.proofs.facts.facts_of.Goals as goal
 
 pub returns-in-Lines : goal.returns-in-Lines

@@ -3,7 +3,6 @@ use native.Mathlib.Omega.{arith}
 use mathlib.Core.Path.{sym}
 use lib.Seq.{length-take-le}
 use Rattle.labels.proofs.LinesLaw.{facts_from_lem, facts_unended}
-use borrow.Author.Rules.{rules}
 use Rattle.labels.proofs.facts.read.Goals as goal
 
 pub returns-then-s-end : goal.returns-then-s-end

@@ -2,7 +2,6 @@
 use native.Mathlib.Omega.{arith}
 use Rattle.texts.specs.Cut.{rest_is}
 use Rattle.labels.proofs.LineLaw.{rest_bad, rest_read}
-use borrow.Author.Rules.{rules}
 use Rattle.labels.proofs.lines.marks_behind.Goals as goal
 
 pub returns-then-n-eq0 : goal.returns-then-n-eq0

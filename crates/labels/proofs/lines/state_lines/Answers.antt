@@ -1,7 +1,6 @@
 -- `state_lines` meets its contract, by the laws of `LinesLaw`. Assumes nothing.
 use borrow.Author.Rules.{rules}
-use lib.ListN.{length}
-use Rattle.labels.proofs.LinesLaw.{Counting, count_laws}
+use Rattle.labels.proofs.LinesLaw.{count_laws}
 use Rattle.labels.proofs.lines.state_lines.Goals as goal
 
 pub loop-t-init : goal.loop-t-init

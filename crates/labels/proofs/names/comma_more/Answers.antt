@@ -1,6 +1,5 @@
 -- `comma_more` meets its contract. Assumes nothing.
 use borrow.Author.Tests.{eq-eqb, ne_eqb}
-use borrow.Author.Rules.{rules}
 use Rattle.labels.proofs.names.comma_more.Goals as goal
 
 pub returns-then-b-eq44 : goal.returns-then-b-eq44

@@ -1,11 +1,8 @@
 -- `commas` meets its contract. Assumes nothing.
-use borrow.Author.Rules.{rules}
 use native.Mathlib.Omega.{arith}
-use Prim.Native.Nat.{◌+◌, ◌≤◌}
-use mathlib.Core.Path.{◌≡◌, sym, ◌∙◌}
-use lib.ListN.{length, length-drop, get_or}
+use mathlib.Core.Path.{sym, ◌∙◌}
+use lib.ListN.{length-drop, get_or}
 use Rattle.texts.specs.Cut.{rest_is}
-use Rattle.labels.specs.FirstLine.{commas_in}
 use Rattle.labels.proofs.CommasLaw.{commas_end, commas_more, comma_one}
 use Rattle.labels.proofs.names.commas.Goals as goal
 

@@ -1,12 +1,8 @@
 -- `commas` meets its contract. Assumes nothing.
-use borrow.Author.Rules.{rules}
-use native.Mathlib.Omega.{arith}
 use Prim.Native.Nat.{◌+◌, ◌≤◌}
-use mathlib.Core.Path.{◌≡◌, sym, ◌∙◌}
-use lib.ListN.{length, length-drop, get_or}
-use Rattle.texts.specs.Cut.{rest_is}
+use mathlib.Core.Path.{◌≡◌}
+use lib.ListN.{length}
 use Rattle.labels.specs.FirstLine.{commas_in}
-use Rattle.labels.proofs.CommasLaw.{commas_end, commas_more, comma_one}
 use Rattle.labels.proofs.names.commas.Given as goal
 
 abbrev pub invariant-loop-t : goal.invariant-loop-t

@@ -1,10 +1,4 @@
 -- `good_names` meets its contract, by the laws of `NamesLaw`. Assumes nothing.
-use mathlib.Core.Path.{◌≡◌}
-use lib.ListN.{length}
-use Rattle.csl.specs.Text.{every}
-use Rattle.csl.specs.Line.{comma}
-use Rattle.csl.specs.Labels.{is_name}
-use Rattle.texts.specs.Behind.{parts_behind}
 use Rattle.labels.proofs.NamesLaw.{name_laws}
 use borrow.Author.Rules.{rules}
 use Rattle.labels.proofs.names.good_names.Goals as goal

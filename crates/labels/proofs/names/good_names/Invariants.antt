@@ -5,8 +5,6 @@ use Rattle.csl.specs.Text.{every}
 use Rattle.csl.specs.Line.{comma}
 use Rattle.csl.specs.Labels.{is_name}
 use Rattle.texts.specs.Behind.{parts_behind}
-use Rattle.labels.proofs.NamesLaw.{name_laws}
-use borrow.Author.Rules.{rules}
 use Rattle.labels.proofs.names.good_names.Given as goal
 
 abbrev pub invariant-loop-t : goal.invariant-loop-t

@@ -1,9 +1,4 @@
 -- `no_repeat` meets its contract, by the laws of `NamesLaw`. Assumes nothing.
-use mathlib.Core.Path.{◌≡◌}
-use lib.ListN.{length}
-use Rattle.csl.specs.Line.{comma}
-use Rattle.csl.specs.Labels.{no_repeat}
-use Rattle.texts.specs.Behind.{parts_behind}
 use Rattle.labels.proofs.NamesLaw.{name_laws}
 use borrow.Author.Rules.{rules}
 use Rattle.labels.proofs.names.no_repeat.Goals as goal

@@ -4,8 +4,6 @@ use lib.ListN.{length}
 use Rattle.csl.specs.Line.{comma}
 use Rattle.csl.specs.Labels.{no_repeat}
 use Rattle.texts.specs.Behind.{parts_behind}
-use Rattle.labels.proofs.NamesLaw.{name_laws}
-use borrow.Author.Rules.{rules}
 use Rattle.labels.proofs.names.no_repeat.Given as goal
 
 abbrev pub invariant-loop-t : goal.invariant-loop-t

@@ -1,6 +1,4 @@
 -- `place` meets its contract, by the laws of `NamesLaw`. Assumes nothing.
-use lib.ListN.{length}
-use Rattle.labels.proofs.NamesLaw.{Placing}
 use Rattle.labels.proofs.NamesLaw.{name_laws}
 use borrow.Author.Rules.{rules}
 use Rattle.labels.proofs.names.place.Goals as goal

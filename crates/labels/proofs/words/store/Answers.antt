@@ -1,8 +1,6 @@
 -- `store` meets its contract. Assumes nothing.
-use borrow.Author.Rules.{rules}
 use native.Mathlib.Omega.{arith}
-use lib.ListN.{length}
-use Rattle.labels.proofs.StoreLaw.{Storing, start, start_none, sized, done}
+use Rattle.labels.proofs.StoreLaw.{start, start_none, sized, done}
 use Rattle.labels.proofs.StoreLaw.{never_bad, number_ends, marks_begin, marks_ahead, room, offset_fits, next_fits, turn}
 use Rattle.labels.proofs.LinesLaw.{line_ends, line_falls}
 use Rattle.labels.proofs.words.store.Goals as goal

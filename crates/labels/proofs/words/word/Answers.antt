@@ -2,7 +2,7 @@
 use borrow.Author.Rules.{rules}
 use native.Mathlib.Omega.{arith}
 use Rattle.texts.specs.Cut.{rest_is}
-use Rattle.labels.proofs.WordLaw.{Wording, start, small, turn, done, mark_bytes}
+use Rattle.labels.proofs.WordLaw.{start, small, turn, done, mark_bytes}
 use Rattle.labels.proofs.words.word.Goals as goal
 
 pub loop-left-init : goal.loop-left-init

@@ -1,8 +1,5 @@
 -- `word` meets its contract. Assumes nothing.
-use borrow.Author.Rules.{rules}
-use native.Mathlib.Omega.{arith}
-use Rattle.texts.specs.Cut.{rest_is}
-use Rattle.labels.proofs.WordLaw.{Wording, start, small, turn, done, mark_bytes}
+use Rattle.labels.proofs.WordLaw.{Wording}
 use Rattle.labels.proofs.words.word.Given as goal
 
 abbrev pub invariant-loop-left : goal.invariant-loop-left

@@ -3,7 +3,6 @@ use native.Mathlib.Omega.{arith}
 use mathlib.Core.Path.{sym}
 use lib.Seq.{length-take-le}
 use Rattle.moves.proofs.TextLaw.{facts_empty, facts_unended, facts_read}
-use borrow.Author.Rules.{rules}
 use Rattle.moves.proofs.facts.read.Goals as goal
 
 pub returns-then-s-eq0 : goal.returns-then-s-eq0

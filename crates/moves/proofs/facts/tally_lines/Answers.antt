@@ -1,7 +1,6 @@
 -- `tally_lines` meets its contract, by the laws of `ReadLaw`. Assumes nothing.
 use borrow.Author.Rules.{rules}
-use lib.ListN.{length}
-use Rattle.moves.proofs.ReadLaw.{Tallying, tally_laws}
+use Rattle.moves.proofs.ReadLaw.{tally_laws}
 use Rattle.moves.proofs.facts.tally_lines.Goals as goal
 
 pub loop-t-init : goal.loop-t-init

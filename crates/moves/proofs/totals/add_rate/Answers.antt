@@ -1,5 +1,4 @@
 -- `add_rate` meets its contract. Assumes nothing.
-use borrow.Author.Rules.{rules}
 use Rattle.moves.proofs.totals.add_rate.Goals as goal
 
 pub returns : goal.returns

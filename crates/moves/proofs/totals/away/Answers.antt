@@ -1,5 +1,4 @@
 -- `away` meets its contract. Assumes nothing.
-use borrow.Author.Rules.{rules}
 use borrow.Author.Tests.{lt-ltb, le-ltb}
 use Rattle.moves.proofs.totals.away.Goals as goal
 

@@ -1,8 +1,7 @@
 -- `top_rate` meets its contract. Assumes nothing.
-use Prim.Native.Nat.{◌-◌}
 use native.Mathlib.Omega.{arith}
 use borrow.Author.Rules.{rules}
-use Rattle.moves.proofs.TotalsLaw.{own_part, Seeking, seek_done, seek_laws}
+use Rattle.moves.proofs.TotalsLaw.{own_part, seek_done, seek_laws}
 use Rattle.moves.proofs.totals.top_rate.Goals as goal
 
 pub loop-s-init : goal.loop-s-init

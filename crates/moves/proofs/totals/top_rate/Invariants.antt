@@ -1,8 +1,6 @@
 -- `top_rate` meets its contract. Assumes nothing.
 use Prim.Native.Nat.{◌-◌}
-use native.Mathlib.Omega.{arith}
-use borrow.Author.Rules.{rules}
-use Rattle.moves.proofs.TotalsLaw.{own_part, Seeking, seek_done, seek_laws}
+use Rattle.moves.proofs.TotalsLaw.{Seeking}
 use Rattle.moves.proofs.totals.top_rate.Given as goal
 
 abbrev pub invariant-loop-s : goal.invariant-loop-s

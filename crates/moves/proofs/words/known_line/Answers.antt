@@ -1,6 +1,5 @@
 -- `known_line` meets its contract. Assumes nothing.
 use Rattle.moves.proofs.KnownLaw.{first_there, second_there, third_there, known_word}
-use borrow.Author.Rules.{rules}
 use Rattle.moves.proofs.words.known_line.Goals as goal
 
 pub known_field-from-requires : goal.known_field-from-requires

@@ -1,8 +1,6 @@
 -- `store` meets its contract. Assumes nothing.
-use borrow.Author.Rules.{rules}
 use native.Mathlib.Omega.{arith}
-use lib.ListN.{length}
-use Rattle.moves.proofs.StoreLaw.{Storing, start, start_none, sized, done, line_passes, room, offset_fits, next_fits, turn}
+use Rattle.moves.proofs.StoreLaw.{start, start_none, sized, done, line_passes, room, offset_fits, next_fits, turn}
 use Rattle.moves.proofs.words.store.Goals as goal
 
 pub returns-then-s-end : goal.returns-then-s-end

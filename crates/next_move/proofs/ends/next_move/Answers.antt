@@ -1,7 +1,6 @@
 -- `next_move` meets its contract. Assumes nothing.
-use Prim.Native.Nat.{◌-◌}
 use borrow.Author.Rules.{rules}
-use Rattle.next_move.proofs.EndsLaw.{Inv, ends_laws}
+use Rattle.next_move.proofs.EndsLaw.{ends_laws}
 use Rattle.next_move.proofs.ends.next_move.Goals as goal
 
 pub loop-s-init : goal.loop-s-init

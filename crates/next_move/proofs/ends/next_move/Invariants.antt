@@ -1,7 +1,6 @@
 -- `next_move` meets its contract. Assumes nothing.
 use Prim.Native.Nat.{◌-◌}
-use borrow.Author.Rules.{rules}
-use Rattle.next_move.proofs.EndsLaw.{Inv, ends_laws}
+use Rattle.next_move.proofs.EndsLaw.{Inv}
 use Rattle.next_move.proofs.ends.next_move.Given as goal
 
 abbrev pub invariant-loop-s : goal.invariant-loop-s

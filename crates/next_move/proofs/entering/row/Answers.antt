@@ -1,7 +1,6 @@
 -- `row` meets its contract. Assumes nothing.
-use Prim.Native.Nat.{◌-◌}
 use borrow.Author.Rules.{rules}
-use Rattle.next_move.proofs.RowLaw.{Inv, row_laws}
+use Rattle.next_move.proofs.RowLaw.{row_laws}
 use Rattle.next_move.proofs.entering.row.Goals as goal
 
 pub loop-j-init : goal.loop-j-init

@@ -1,7 +1,6 @@
 -- `row` meets its contract. Assumes nothing.
 use Prim.Native.Nat.{◌-◌}
-use borrow.Author.Rules.{rules}
-use Rattle.next_move.proofs.RowLaw.{Inv, row_laws}
+use Rattle.next_move.proofs.RowLaw.{Inv}
 use Rattle.next_move.proofs.entering.row.Given as goal
 
 abbrev pub invariant-loop-j : goal.invariant-loop-j

@@ -1,7 +1,6 @@
 -- `gatherable` meets its contract. Assumes nothing.
 use borrow.Author.Rules.{rules}
-use Prim.Native.Nat.{◌+◌, ◌-◌}
-use Rattle.phase.proofs.GatherLaw.{Inv, gather_laws}
+use Rattle.phase.proofs.GatherLaw.{gather_laws}
 use Rattle.phase.proofs.ends.gatherable.Goals as goal
 
 pub loop-k-init : goal.loop-k-init

@@ -1,7 +1,6 @@
 -- `lower_ends` meets its contract. Assumes nothing.
 use borrow.Author.Rules.{rules}
-use Prim.Native.Nat.{◌-◌}
-use Rattle.phase.proofs.EndsLaw.{Lower, lower_laws}
+use Rattle.phase.proofs.EndsLaw.{lower_laws}
 use Rattle.phase.proofs.ends.lower_ends.Goals as goal
 
 pub total-at-requires : goal.total-at-requires

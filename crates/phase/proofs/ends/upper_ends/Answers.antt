@@ -1,7 +1,6 @@
 -- `upper_ends` meets its contract. Assumes nothing.
 use borrow.Author.Rules.{rules}
-use Prim.Native.Nat.{◌-◌}
-use Rattle.phase.proofs.EndsLaw.{Upper, upper_laws}
+use Rattle.phase.proofs.EndsLaw.{upper_laws}
 use Rattle.phase.proofs.ends.upper_ends.Goals as goal
 
 pub gatherable-whole-requires : goal.gatherable-whole-requires

@@ -1,7 +1,6 @@
 -- `upper_ends` meets its contract. Assumes nothing.
-use borrow.Author.Rules.{rules}
 use Prim.Native.Nat.{◌-◌}
-use Rattle.phase.proofs.EndsLaw.{Upper, upper_laws}
+use Rattle.phase.proofs.EndsLaw.{Upper}
 use Rattle.phase.proofs.ends.upper_ends.Given as goal
 
 abbrev pub invariant-loop-s : goal.invariant-loop-s

@@ -1,6 +1,6 @@
 -- `last_step` meets its contract. Assumes nothing.
 use borrow.Author.Rules.{rules}
-use Rattle.phase.proofs.LastLaw.{Inv, last_laws}
+use Rattle.phase.proofs.LastLaw.{last_laws}
 use Rattle.phase.proofs.load.last_step.Goals as goal
 
 pub total-at-requires : goal.total-at-requires

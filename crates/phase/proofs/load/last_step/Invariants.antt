@@ -1,6 +1,5 @@
 -- `last_step` meets its contract. Assumes nothing.
-use borrow.Author.Rules.{rules}
-use Rattle.phase.proofs.LastLaw.{Inv, last_laws}
+use Rattle.phase.proofs.LastLaw.{Inv}
 use Rattle.phase.proofs.load.last_step.Given as goal
 
 abbrev pub invariant-loop-k : goal.invariant-loop-k

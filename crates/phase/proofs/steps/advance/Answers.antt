@@ -1,7 +1,6 @@
 -- `advance` meets its contract. Assumes nothing.
-use Prim.Native.Nat.{◌-◌}
 use borrow.Author.Rules.{rules}
-use Rattle.phase.proofs.AdvanceLaw.{Inv, advance_laws}
+use Rattle.phase.proofs.AdvanceLaw.{advance_laws}
 use Rattle.phase.proofs.steps.advance.Goals as goal
 
 pub loop-i-init : goal.loop-i-init

@@ -1,7 +1,6 @@
 -- `advance` meets its contract. Assumes nothing.
 use Prim.Native.Nat.{◌-◌}
-use borrow.Author.Rules.{rules}
-use Rattle.phase.proofs.AdvanceLaw.{Inv, advance_laws}
+use Rattle.phase.proofs.AdvanceLaw.{Inv}
 use Rattle.phase.proofs.steps.advance.Given as goal
 
 abbrev pub invariant-loop-i : goal.invariant-loop-i

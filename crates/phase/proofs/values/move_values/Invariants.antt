@@ -1,7 +1,6 @@
 -- `move_values` meets its contract. Assumes nothing.
 use Prim.Native.Nat.{◌-◌}
-use borrow.Author.Rules.{rules}
-use Rattle.phase.proofs.ValuesLaw.{Inv, values_laws}
+use Rattle.phase.proofs.ValuesLaw.{Inv}
 use Rattle.phase.proofs.values.move_values.Given as goal
 
 abbrev pub invariant-loop-s : goal.invariant-loop-s

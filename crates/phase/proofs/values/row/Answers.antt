@@ -1,8 +1,7 @@
 -- `row` meets its contract. Assumes nothing.
-use Prim.Native.Nat.{◌-◌}
 use borrow.Author.Rules.{rules}
 use native.Mathlib.Omega.{arith}
-use Rattle.phase.proofs.RowLaw.{Inv, row_laws, sum_fits}
+use Rattle.phase.proofs.RowLaw.{row_laws, sum_fits}
 use Rattle.phase.proofs.values.row.Goals as goal
 
 pub loop-j-init : goal.loop-j-init

@@ -1,8 +1,6 @@
 -- `row` meets its contract. Assumes nothing.
 use Prim.Native.Nat.{◌-◌}
-use borrow.Author.Rules.{rules}
-use native.Mathlib.Omega.{arith}
-use Rattle.phase.proofs.RowLaw.{Inv, row_laws, sum_fits}
+use Rattle.phase.proofs.RowLaw.{Inv}
 use Rattle.phase.proofs.values.row.Given as goal
 
 abbrev pub invariant-loop-j : goal.invariant-loop-j

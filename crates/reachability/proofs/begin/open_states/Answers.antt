@@ -1,7 +1,6 @@
 -- `open_states` meets its contract. Assumes nothing.
-use Prim.Native.Nat.{◌-◌}
 use borrow.Author.Rules.{rules}
-use Rattle.reachability.proofs.CountLaw.{Inv, count_laws}
+use Rattle.reachability.proofs.CountLaw.{count_laws}
 use Rattle.reachability.proofs.begin.open_states.Goals as goal
 
 pub loop-s-init : goal.loop-s-init

@@ -1,7 +1,6 @@
 -- `open_states` meets its contract. Assumes nothing.
 use Prim.Native.Nat.{◌-◌}
-use borrow.Author.Rules.{rules}
-use Rattle.reachability.proofs.CountLaw.{Inv, count_laws}
+use Rattle.reachability.proofs.CountLaw.{Inv}
 use Rattle.reachability.proofs.begin.open_states.Given as goal
 
 abbrev pub invariant-loop-s : goal.invariant-loop-s

@@ -1,7 +1,6 @@
 -- `seed` meets its contract. Assumes nothing.
-use Prim.Native.Nat.{◌-◌}
 use borrow.Author.Rules.{rules}
-use Rattle.reachability.proofs.SeedLaw.{Inv, seed_laws}
+use Rattle.reachability.proofs.SeedLaw.{seed_laws}
 use Rattle.reachability.proofs.begin.seed.Goals as goal
 
 pub loop-s-init : goal.loop-s-init

@@ -1,7 +1,6 @@
 -- `enter` meets its contract. Assumes nothing.
-use Prim.Native.Nat.{◌-◌}
 use borrow.Author.Rules.{rules}
-use Rattle.reachability.proofs.EnterLaw.{Inv, enter_laws}
+use Rattle.reachability.proofs.EnterLaw.{enter_laws}
 use Rattle.reachability.proofs.spread.enter.Goals as goal
 
 pub loop-k-init : goal.loop-k-init

@@ -1,7 +1,6 @@
 -- `enter` meets its contract. Assumes nothing.
 use Prim.Native.Nat.{◌-◌}
-use borrow.Author.Rules.{rules}
-use Rattle.reachability.proofs.EnterLaw.{Inv, enter_laws}
+use Rattle.reachability.proofs.EnterLaw.{Inv}
 use Rattle.reachability.proofs.spread.enter.Given as goal
 
 abbrev pub invariant-loop-k : goal.invariant-loop-k

@@ -1,7 +1,6 @@
 -- `spread` meets its contract. Assumes nothing.
-use Prim.Native.Nat.{◌-◌}
 use borrow.Author.Rules.{rules}
-use Rattle.reachability.proofs.SpreadLaw.{Inv, spread_laws}
+use Rattle.reachability.proofs.SpreadLaw.{spread_laws}
 use Rattle.reachability.proofs.spread.spread.Goals as goal
 
 pub loop-head-init : goal.loop-head-init

@@ -1,7 +1,6 @@
 -- `spread` meets its contract. Assumes nothing.
 use Prim.Native.Nat.{◌-◌}
-use borrow.Author.Rules.{rules}
-use Rattle.reachability.proofs.SpreadLaw.{Inv, spread_laws}
+use Rattle.reachability.proofs.SpreadLaw.{Inv}
 use Rattle.reachability.proofs.spread.spread.Given as goal
 
 abbrev pub invariant-loop-head : goal.invariant-loop-head

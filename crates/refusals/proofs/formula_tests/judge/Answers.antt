@@ -1,6 +1,5 @@
 -- `judge` meets its contract. Assumes nothing.
 use Rattle.refusals.proofs.FormulaLaw.{at_10, at_11, at_12, at_13, at_16, at_14, at_end}
-use borrow.Author.Rules.{rules}
 use Rattle.refusals.proofs.formula_tests.judge.Goals as goal
 
 pub returns-then-not-reading : goal.returns-then-not-reading

@@ -1,6 +1,5 @@
 -- `test_formula` meets its contract. Assumes nothing.
 use Rattle.refusals.proofs.FormulaLaw.{formula_tested}
-use borrow.Author.Rules.{rules}
 use Rattle.refusals.proofs.formula_tests.test_formula.Goals as goal
 
 pub returns : goal.returns

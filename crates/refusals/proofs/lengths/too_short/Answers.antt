@@ -1,6 +1,5 @@
 -- `too_short` meets its contract. Assumes nothing.
 use Rattle.refusals.proofs.ShortLaw.{short_listed}
-use borrow.Author.Rules.{rules}
 use Rattle.refusals.proofs.lengths.too_short.Goals as goal
 
 pub returns : goal.returns

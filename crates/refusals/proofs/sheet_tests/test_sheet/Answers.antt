@@ -1,6 +1,5 @@
 -- `test_sheet` meets its contract. Assumes nothing.
 use Rattle.refusals.proofs.SheetLaw.{within, moves_out, labels_out, later_refused, sheet_passes}
-use borrow.Author.Rules.{rules}
 use Rattle.refusals.proofs.sheet_tests.test_sheet.Goals as goal
 
 pub returns-then-out_of_bytes : goal.returns-then-out_of_bytes

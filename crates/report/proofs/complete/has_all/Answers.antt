@@ -1,6 +1,5 @@
 -- `has_all` meets its contract: the tests are those of the definition. Assumes nothing.
 use borrow.Author.Tests.{le-leb, lt-leb}
-use borrow.Author.Rules.{rules}
 use Rattle.report.proofs.complete.has_all.Goals as goal
 
 pub returns-then-lower-states : goal.returns-then-lower-states

@@ -1,6 +1,5 @@
 -- `listings_fit` meets its contract: what the first listing leaves decides with the second. Assumes nothing.
 use Rattle.report.proofs.FitsLaw.{first_short, second_short, both_fit}
-use borrow.Author.Rules.{rules}
 use Rattle.report.proofs.listings.listings_fit.Goals as goal
 
 pub returns-in_default : goal.returns-in_default

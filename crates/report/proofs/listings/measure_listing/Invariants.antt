@@ -1,12 +1,8 @@
 -- `measure_listing` meets its contract. The invariant: the room that is left and the lines so far are all that was behind the names. Assumes nothing.
-use borrow.Author.Rules.{rules}
-use native.Mathlib.Omega.{arith}
 use mathlib.Core.Path.{◌≡◌}
 use Prim.Native.Nat.{◌+◌, ◌≤◌, ◌-◌}
 use lib.ListN.{length}
 use Rattle.report.specs.Listing.{rows}
-use Rattle.report.proofs.LinesLaw.{listing_length, fit_none, fit_more, fit_no, fit_yes}
-use Rattle.report.proofs.StatesLaw.{read_laws}
 use Rattle.report.proofs.listings.measure_listing.Given as goal
 
 abbrev pub invariant-loop-i : goal.invariant-loop-i

@@ -1,5 +1,4 @@
 -- `state_at` meets its contract: each arm by its case. Assumes nothing.
-use borrow.Author.Rules.{rules}
 use Rattle.report.proofs.listings.state_at.Goals as goal
 
 pub returns-in-WorstFirst : goal.returns-in-WorstFirst

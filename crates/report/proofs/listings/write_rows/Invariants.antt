@@ -1,13 +1,9 @@
 -- `write_rows` meets its contract. The invariant: the lines up to place i are written. Assumes nothing.
-use borrow.Author.Rules.{rules}
-use native.Mathlib.Omega.{arith}
 use mathlib.Core.Path.{◌≡◌}
 use Prim.Native.Nat.{◌≤◌, ◌-◌}
 use lib.ListN.{length}
 use Rattle.decimals.specs.Place.{Wrote}
 use Rattle.report.specs.Listing.{rows}
-use Rattle.report.proofs.LinesLaw.{lines_none, lines_room, lines_more, lines_all}
-use Rattle.report.proofs.StatesLaw.{read_laws}
 use Rattle.report.proofs.listings.write_rows.Given as goal
 
 abbrev pub invariant-loop-i : goal.invariant-loop-i

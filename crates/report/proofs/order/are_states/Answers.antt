@@ -1,9 +1,7 @@
 -- `are_states` meets its contract. The invariant: the numbers from place i on decide. Assumes nothing.
 use borrow.Author.Rules.{rules}
-use mathlib.Core.Path.{◌≡◌, refl}
-use Prim.Native.Nat.{◌≤◌, ◌-◌}
-use Rattle.report.specs.Listing.{are_states}
-use Rattle.report.proofs.StatesLaw.{are_states_from, no_state, a_state, all_states}
+use mathlib.Core.Path.{refl}
+use Rattle.report.proofs.StatesLaw.{no_state, a_state, all_states}
 use Rattle.report.proofs.order.are_states.Goals as goal
 
 pub loop-i-init : goal.loop-i-init

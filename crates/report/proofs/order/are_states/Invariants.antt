@@ -1,9 +1,8 @@
 -- `are_states` meets its contract. The invariant: the numbers from place i on decide. Assumes nothing.
-use borrow.Author.Rules.{rules}
-use mathlib.Core.Path.{◌≡◌, refl}
+use mathlib.Core.Path.{◌≡◌}
 use Prim.Native.Nat.{◌≤◌, ◌-◌}
 use Rattle.report.specs.Listing.{are_states}
-use Rattle.report.proofs.StatesLaw.{are_states_from, no_state, a_state, all_states}
+use Rattle.report.proofs.StatesLaw.{are_states_from}
 use Rattle.report.proofs.order.are_states.Given as goal
 
 abbrev pub invariant-loop-i : goal.invariant-loop-i

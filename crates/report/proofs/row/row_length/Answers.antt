@@ -2,7 +2,6 @@
 use native.Mathlib.Omega.{arith}
 use Rattle.verdicts.specs.Paper.{verdict_of}
 use Rattle.report.proofs.PartsLaw.{row_length}
-use borrow.Author.Rules.{rules}
 use Rattle.report.proofs.row.row_length.Goals as goal
 
 pub returns : goal.returns

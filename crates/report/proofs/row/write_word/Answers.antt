@@ -1,5 +1,4 @@
 -- `write_word` meets its contract: each arm by its case. Assumes nothing.
-use borrow.Author.Rules.{rules}
 use Rattle.report.proofs.row.write_word.Goals as goal
 
 pub write_bytes-requires : goal.write_bytes-requires

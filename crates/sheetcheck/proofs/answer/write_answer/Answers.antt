@@ -1,7 +1,6 @@
 -- `write_answer` meets its contract: what the checker promises, rendered. Assumes nothing.
 use native.Mathlib.Omega.{arith}
 use Rattle.sheetcheck.proofs.Printing.{answer_text, text_answered}
-use borrow.Author.Rules.{rules}
 use Rattle.sheetcheck.proofs.answer.write_answer.Goals as goal
 
 pub returns : goal.returns

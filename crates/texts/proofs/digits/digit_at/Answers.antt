@@ -1,7 +1,6 @@
 -- `digit_at` meets its contract. Assumes nothing.
 use mathlib.Core.Path.{sym}
 use Rattle.texts.specs.Counting.{no_digit}
-use borrow.Author.Rules.{rules}
 use native.Mathlib.Omega.{arith}
 use Rattle.texts.proofs.digits.digit_at.Goals as goal
 

@@ -1,10 +1,8 @@
 -- `number` meets its contract. Assumes nothing.
 use borrow.Author.Rules.{rules}
-use borrow.Author.Tests.{not-true}
 use native.Mathlib.Omega.{arith}
-use Prim.Native.Nat.{◌-◌, ◌≤◌}
 use mathlib.Core.Path.{sym, ◌∙◌}
-use Rattle.texts.specs.Counting.{Counting, none_counted, one_more, fits, digit_range}
+use Rattle.texts.specs.Counting.{none_counted, one_more, fits, digit_range}
 use Rattle.texts.proofs.NumberLaw.{number_ends, number_long, held}
 use Rattle.texts.proofs.digits.number.Goals as goal
 

@@ -3,7 +3,6 @@ use native.Mathlib.Omega.{arith}
 use mathlib.Core.Path.{sym, ◌∙◌}
 use borrow.Author.Tests.{eq-eqb}
 use Rattle.texts.proofs.FieldLaw.{mark_short, mark_other, mark_zero, mark_one}
-use borrow.Author.Rules.{rules}
 use Rattle.texts.proofs.fields.mark.Goals as goal
 
 pub returns-then-t-lt2 : goal.returns-then-t-lt2

@@ -1,14 +1,8 @@
 -- `marks` meets its contract. Assumes nothing.
-use borrow.Author.Rules.{rules}
-use borrow.Author.Tests.{not-true, not-false}
-use native.Mathlib.Omega.{arith}
 use Prim.Native.Nat.{◌+◌, ◌*◌, ◌≤◌}
-use mathlib.Core.Path.{◌≡◌, sym, ◌∙◌}
+use mathlib.Core.Path.{◌≡◌}
 use lib.ListN.{length}
-use Rattle.texts.specs.Cut.{rest_is}
-use Rattle.csl.specs.Line.{comma, line_feed}
-use Rattle.texts.specs.Marks.{marks_in, mark_bytes}
-use Rattle.texts.proofs.FieldLaw.{marks_no, marks_yes, marks_end, marks_bad}
+use Rattle.texts.specs.Marks.{marks_in}
 use Rattle.texts.proofs.fields.marks.Given as goal
 
 abbrev pub invariant-loop-left : goal.invariant-loop-left

@@ -1,9 +1,6 @@
 -- `same` meets its contract. Assumes nothing.
-use borrow.Author.Rules.{rules}
 use native.Mathlib.Omega.{arith}
-use mathlib.Core.Path.{◌≡◌, sym, ◌∙◌}
-use lib.ListN.{length}
-use Rattle.csl.specs.Text.{same}
+use mathlib.Core.Path.{sym, ◌∙◌}
 use Rattle.texts.specs.Cut.{rest_is}
 use Rattle.texts.proofs.ScanLaw.{same_ended, same_shorter, same_differ, same_more}
 use Rattle.texts.proofs.parts.same.Goals as goal

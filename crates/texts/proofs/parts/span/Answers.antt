@@ -1,10 +1,6 @@
 -- `span` meets its contract. Assumes nothing.
 use borrow.Author.Rules.{rules}
 use native.Mathlib.Omega.{arith}
-use Prim.Native.Nat.{◌+◌}
-use mathlib.Core.Path.{◌≡◌}
-use lib.ListN.{length}
-use Rattle.texts.specs.Span.{span_of}
 use Rattle.texts.specs.Cut.{rest_is}
 use Rattle.texts.proofs.ScanLaw.{span_ended, span_here, span_more}
 use Rattle.texts.proofs.parts.span.Goals as goal

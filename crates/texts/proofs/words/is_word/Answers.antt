@@ -1,6 +1,5 @@
 -- `is_word` meets its contract. Assumes nothing.
 use Rattle.texts.proofs.WordLaw.{word_long, word_empty, word_other_lem}
-use borrow.Author.Rules.{rules}
 use Rattle.texts.proofs.words.is_word.Goals as goal
 
 pub returns-then-w-ge1 : goal.returns-then-w-ge1

@@ -1,10 +1,6 @@
 -- `letters` meets its contract. Assumes nothing.
-use borrow.Author.Rules.{rules}
 use native.Mathlib.Omega.{arith}
-use mathlib.Core.Path.{◌≡◌, sym, ◌∙◌}
-use lib.ListN.{length}
-use Rattle.csl.specs.Text.{every}
-use Rattle.csl.specs.Labels.{is_letter}
+use mathlib.Core.Path.{sym, ◌∙◌}
 use Rattle.texts.specs.Cut.{rest_is}
 use Rattle.texts.proofs.WordLaw.{all_ended, all_low, all_high, all_more}
 use Rattle.texts.proofs.words.letters.Goals as goal

@@ -1,8 +1,7 @@
 -- `point` meets its contract. Assumes nothing.
 use borrow.Author.Rules.{rules}
 use native.Mathlib.Omega.{arith}
-use Prim.Native.Nat.{◌-◌}
-use Rattle.until.proofs.PointLaw.{Inv, point_laws, turn}
+use Rattle.until.proofs.PointLaw.{point_laws, turn}
 use Rattle.until.proofs.ends.point.Goals as goal
 
 pub loop-s-init : goal.loop-s-init

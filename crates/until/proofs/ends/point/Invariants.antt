@@ -1,8 +1,6 @@
 -- `point` meets its contract. Assumes nothing.
-use borrow.Author.Rules.{rules}
-use native.Mathlib.Omega.{arith}
 use Prim.Native.Nat.{◌-◌}
-use Rattle.until.proofs.PointLaw.{Inv, point_laws, turn}
+use Rattle.until.proofs.PointLaw.{Inv}
 use Rattle.until.proofs.ends.point.Given as goal
 
 abbrev pub invariant-loop-s : goal.invariant-loop-s

@@ -1,5 +1,4 @@
 -- `pointed` meets its contract: each arm by its case. Assumes nothing.
-use borrow.Author.Rules.{rules}
 use Rattle.until.proofs.ends.pointed.Goals as goal
 
 pub returns-in-Yes : goal.returns-in-Yes

@@ -1,8 +1,7 @@
 -- `restrict` meets its contract. Assumes nothing.
 use borrow.Author.Rules.{rules}
 use native.Mathlib.Omega.{arith}
-use Prim.Native.Nat.{◌-◌}
-use Rattle.until.proofs.RestrictLaw.{Inv, restrict_laws, turn}
+use Rattle.until.proofs.RestrictLaw.{restrict_laws, turn}
 use Rattle.until.proofs.ends.restrict.Goals as goal
 
 pub loop-s-init : goal.loop-s-init

@@ -1,8 +1,6 @@
 -- `restrict` meets its contract. Assumes nothing.
-use borrow.Author.Rules.{rules}
-use native.Mathlib.Omega.{arith}
 use Prim.Native.Nat.{◌-◌}
-use Rattle.until.proofs.RestrictLaw.{Inv, restrict_laws, turn}
+use Rattle.until.proofs.RestrictLaw.{Inv}
 use Rattle.until.proofs.ends.restrict.Given as goal
 
 abbrev pub invariant-loop-s : goal.invariant-loop-s

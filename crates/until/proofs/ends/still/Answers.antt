@@ -1,7 +1,6 @@
 -- `still` meets its contract. Assumes nothing.
 use borrow.Author.Rules.{rules}
-use Prim.Native.Nat.{◌-◌}
-use Rattle.until.proofs.StillLaw.{Inv, still_laws}
+use Rattle.until.proofs.StillLaw.{still_laws}
 use Rattle.until.proofs.ends.still.Goals as goal
 
 pub loop-s-init : goal.loop-s-init

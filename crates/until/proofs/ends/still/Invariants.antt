@@ -1,7 +1,6 @@
 -- `still` meets its contract. Assumes nothing.
-use borrow.Author.Rules.{rules}
 use Prim.Native.Nat.{◌-◌}
-use Rattle.until.proofs.StillLaw.{Inv, still_laws}
+use Rattle.until.proofs.StillLaw.{Inv}
 use Rattle.until.proofs.ends.still.Given as goal
 
 abbrev pub invariant-loop-s : goal.invariant-loop-s

@@ -1,7 +1,6 @@
 -- `gap` meets its contract. Assumes nothing.
 use borrow.Author.Rules.{rules}
-use Prim.Native.Nat.{◌-◌}
-use Rattle.until.proofs.GapLaw.{Inv, gap_laws}
+use Rattle.until.proofs.GapLaw.{gap_laws}
 use Rattle.until.proofs.reading.gap.Goals as goal
 
 pub loop-s-init : goal.loop-s-init

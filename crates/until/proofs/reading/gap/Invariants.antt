@@ -1,7 +1,6 @@
 -- `gap` meets its contract. Assumes nothing.
-use borrow.Author.Rules.{rules}
 use Prim.Native.Nat.{◌-◌}
-use Rattle.until.proofs.GapLaw.{Inv, gap_laws}
+use Rattle.until.proofs.GapLaw.{Inv}
 use Rattle.until.proofs.reading.gap.Given as goal
 
 abbrev pub invariant-loop-s : goal.invariant-loop-s

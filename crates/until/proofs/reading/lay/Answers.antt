@@ -2,8 +2,7 @@
 use borrow.Author.Rules.{rules}
 use mathlib.Core.Path.{refl}
 use native.Mathlib.Omega.{arith}
-use Prim.Native.Nat.{◌-◌}
-use Rattle.until.proofs.LayLaw.{Inv, lay_laws, turn}
+use Rattle.until.proofs.LayLaw.{lay_laws, turn}
 use Rattle.until.proofs.reading.lay.Goals as goal
 
 pub starts-from-requires : goal.starts-from-requires

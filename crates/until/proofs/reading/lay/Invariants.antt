@@ -1,9 +1,6 @@
 -- `lay` meets its contract. Assumes nothing.
-use borrow.Author.Rules.{rules}
-use mathlib.Core.Path.{refl}
-use native.Mathlib.Omega.{arith}
 use Prim.Native.Nat.{◌-◌}
-use Rattle.until.proofs.LayLaw.{Inv, lay_laws, turn}
+use Rattle.until.proofs.LayLaw.{Inv}
 use Rattle.until.proofs.reading.lay.Given as goal
 
 abbrev pub invariant-loop-s : goal.invariant-loop-s

@@ -1,8 +1,6 @@
 -- `run` meets its contract. Assumes nothing.
 use borrow.Author.Rules.{rules}
-use Prim.Native.Nat.{◌-◌}
-use lib.ListN.{get_or}
-use Rattle.until.proofs.RunLaw.{Inv, run_laws}
+use Rattle.until.proofs.RunLaw.{run_laws}
 use Rattle.until.proofs.reading.run.Goals as goal
 
 pub number-at-requires : goal.number-at-requires

@@ -1,8 +1,7 @@
 -- `run` meets its contract. Assumes nothing.
-use borrow.Author.Rules.{rules}
 use Prim.Native.Nat.{◌-◌}
 use lib.ListN.{get_or}
-use Rattle.until.proofs.RunLaw.{Inv, run_laws}
+use Rattle.until.proofs.RunLaw.{Inv}
 use Rattle.until.proofs.reading.run.Given as goal
 
 abbrev pub invariant-loop-words : goal.invariant-loop-words

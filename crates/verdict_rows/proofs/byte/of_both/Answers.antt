@@ -1,7 +1,6 @@
 -- `of_both` meets its contract: what the verdict's methods promise, one after the other. Assumes nothing.
 use mathlib.Core.Path.{◌∙◌}
 use Rattle.verdict_rows.specs.Byte.{joined_byte}
-use borrow.Author.Rules.{rules}
 use Rattle.verdict_rows.proofs.byte.of_both.Goals as goal
 
 pub returns : goal.returns

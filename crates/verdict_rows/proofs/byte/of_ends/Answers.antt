@@ -1,7 +1,6 @@
 -- `of_ends` meets its contract: what the interval's and the verdict's methods promise, one after the other. Assumes nothing.
 use mathlib.Core.Path.{◌∙◌}
 use Rattle.verdict_rows.specs.Byte.{judged_byte}
-use borrow.Author.Rules.{rules}
 use Rattle.verdict_rows.proofs.byte.of_ends.Goals as goal
 
 pub returns : goal.returns

@@ -1,7 +1,6 @@
 -- `of_label` meets its contract: each return by the test that led there. Assumes nothing.
 use borrow.Author.Tests.{eq-eqb, ne_eqb}
 use Rattle.verdict_rows.specs.Byte.{label_byte}
-use borrow.Author.Rules.{rules}
 use Rattle.verdict_rows.proofs.byte.of_label.Goals as goal
 
 pub returns-then-word-label-eq1 : goal.returns-then-word-label-eq1

@@ -1,7 +1,6 @@
 -- `all_decided` meets its contract. Assumes nothing.
-use Prim.Native.Nat.{◌-◌}
 use borrow.Author.Rules.{rules}
-use Rattle.verdict_rows.proofs.DecidedLaw.{Looking, decided_laws}
+use Rattle.verdict_rows.proofs.DecidedLaw.{decided_laws}
 use Rattle.verdict_rows.proofs.row.all_decided.Goals as goal
 
 pub loop-s-init : goal.loop-s-init

@@ -1,7 +1,6 @@
 -- `fill` meets its contract. Assumes nothing.
-use Prim.Native.Nat.{◌-◌}
 use borrow.Author.Rules.{rules}
-use Rattle.verdict_rows.specs.Filling.{Filling, filling_laws}
+use Rattle.verdict_rows.specs.Filling.{filling_laws}
 use Rattle.verdict_rows.proofs.row.fill.Goals as goal
 
 pub loop-s-init : goal.loop-s-init

@@ -1,7 +1,6 @@
 -- `fill` meets its contract. Assumes nothing.
 use Prim.Native.Nat.{◌-◌}
-use borrow.Author.Rules.{rules}
-use Rattle.verdict_rows.specs.Filling.{Filling, filling_laws}
+use Rattle.verdict_rows.specs.Filling.{Filling}
 use Rattle.verdict_rows.proofs.row.fill.Given as goal
 
 abbrev pub invariant-loop-s : goal.invariant-loop-s

@@ -1,9 +1,6 @@
 -- `fill_label` meets its contract. Assumes nothing.
-use Prim.Native.Nat.{◌-◌}
-use lib.ListN.{get_or}
 use borrow.Author.Rules.{rules}
-use Rattle.verdict_rows.specs.Byte.{label_byte}
-use Rattle.verdict_rows.specs.Filling.{Filling, filling_laws}
+use Rattle.verdict_rows.specs.Filling.{filling_laws}
 use Rattle.verdict_rows.proofs.row.fill_label.Goals as goal
 
 pub loop-s-init : goal.loop-s-init

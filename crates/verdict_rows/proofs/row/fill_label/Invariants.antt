@@ -1,9 +1,8 @@
 -- `fill_label` meets its contract. Assumes nothing.
 use Prim.Native.Nat.{◌-◌}
 use lib.ListN.{get_or}
-use borrow.Author.Rules.{rules}
 use Rattle.verdict_rows.specs.Byte.{label_byte}
-use Rattle.verdict_rows.specs.Filling.{Filling, filling_laws}
+use Rattle.verdict_rows.specs.Filling.{Filling}
 use Rattle.verdict_rows.proofs.row.fill_label.Given as goal
 
 abbrev pub invariant-loop-s : goal.invariant-loop-s

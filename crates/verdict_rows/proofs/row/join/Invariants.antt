@@ -1,10 +1,8 @@
 -- `join` meets its contract. Assumes nothing.
 use Prim.Native.Nat.{◌+◌, ◌-◌}
 use lib.ListN.{get_or}
-use borrow.Author.Rules.{rules}
 use Rattle.verdict_rows.specs.Byte.{joined_byte}
-use Rattle.verdict_rows.specs.Filling.{Filling, filling_laws}
-use Rattle.verdict_rows.proofs.RowLaw.{joined_more}
+use Rattle.verdict_rows.specs.Filling.{Filling}
 use Rattle.verdict_rows.proofs.row.join.Given as goal
 
 abbrev pub invariant-loop-s : goal.invariant-loop-s

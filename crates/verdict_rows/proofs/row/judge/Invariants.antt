@@ -1,11 +1,9 @@
 -- `judge` meets its contract. Assumes nothing.
 use Prim.Native.Nat.{◌+◌, ◌-◌}
 use lib.ListN.{get_or}
-use borrow.Author.Rules.{rules}
 use Rattle.verdicts.specs.Paper.{comparison_of}
 use Rattle.verdict_rows.specs.Byte.{judged_byte}
-use Rattle.verdict_rows.specs.Filling.{Filling, filling_laws}
-use Rattle.verdict_rows.proofs.RowLaw.{lower_in, upper_in}
+use Rattle.verdict_rows.specs.Filling.{Filling}
 use Rattle.verdict_rows.proofs.row.judge.Given as goal
 
 abbrev pub invariant-loop-s : goal.invariant-loop-s

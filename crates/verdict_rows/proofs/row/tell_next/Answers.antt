@@ -1,10 +1,6 @@
 -- `tell_next` meets its contract. Assumes nothing.
-use Prim.Native.Nat.{◌+◌, ◌-◌}
-use lib.ListN.{get_or}
 use borrow.Author.Rules.{rules}
-use Rattle.verdicts.specs.Paper.{comparison_of}
-use Rattle.verdict_rows.specs.Byte.{told_byte, next_byte}
-use Rattle.verdict_rows.specs.Filling.{Filling, filling_laws}
+use Rattle.verdict_rows.specs.Filling.{filling_laws}
 use Rattle.verdict_rows.proofs.RowLaw.{told_by}
 use Rattle.verdict_rows.proofs.row.tell_next.Goals as goal
 

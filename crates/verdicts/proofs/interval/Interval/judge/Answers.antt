@@ -1,5 +1,4 @@
 -- `Interval::judge` meets its contract: each arm is what its part and `negate` promise. Assumes nothing.
-use borrow.Author.Rules.{rules}
 use Rattle.verdicts.proofs.interval.Interval.judge.Goals as goal
 
 pub returns-in-AtLeast : goal.returns-in-AtLeast
