@@ -26,7 +26,7 @@ HEAD = f"""-- Jobs against the definitions, by computation. Assumes nothing.
 use Rattle.std.specs.Prelude.{{◌≡◌, refl, cond, ℕ, eqb, List, [], ◌∷◌}}
 use Rattle.std.proofs.Math.Option.{{Option, some, none}}
 use Rattle.csl.specs.Text.{{bytes}}
-use Rattle.csl.specs.Formula.{{always, label, negated, both, chance, until, between, nextMove, Less, AtMost, AtLeast, More}}
+use Rattle.csl.specs.Formula.{{always, label, negated, both, chance, until, between, next_move, Less, AtMost, AtLeast, More}}
 use Rattle.csl.specs.Lent.{{Buffers, needed}}
 use Rattle.csl.specs.Chain.{{top_rate}}
 use Rattle.csl.specs.Verdicts.{{No, Yes, Undecided}}
@@ -61,7 +61,7 @@ def term(tree):
     return f"({'negated' if isinstance(tree, f.Not) else 'both'} {below})"
 
 
-PATHS = {f.Until: "until", f.Between: "between", f.Next: "nextMove"}
+PATHS = {f.Until: "until", f.Between: "between", f.Next: "next_move"}
 
 
 def path_words(path):
