@@ -2,7 +2,7 @@
 ghost use Rattle.console.specs.Counts.{IsPrefixLen};
 
 use std::fs::File;
-use std::io::{ErrorKind, Read};
+use std::io::Read;
 use std::rt::Files;
 
 // Reads the file of this name to the front of `text` and answers how many bytes that is; of a file that is longer it reads as much as `text`
