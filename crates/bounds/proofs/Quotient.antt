@@ -11,7 +11,7 @@ use Rattle.bounds.specs.Exact.{power, weight_bottom, weighted_sum, bottom_pos, b
 use Rattle.bounds.specs.Ends.{lower_end, LowerValues}
 use Rattle.bounds.proofs.Ends.{lower_end_lem}
 
--- the weight of step k is power a k / weightBottom b k
+-- the weight of step k is power a k / weight_bottom b k
 weight_top : (a b k : ℕ) → (weight (frac a b) k).top ≡ power a k
 unfolding weight power
 weight_top a b zero = refl

@@ -109,8 +109,8 @@ fn check_formula(
 // `finished` leaves open what document 01 does: the two ends of a `P` (numbers that keep the rules for ends), and the verdicts and later ends that
 // follow from them. All else is determined, for all texts and lengths: refused or accepted, the number or the depth, and every place of every
 // lent buffer. `found` says which ends they are, by the chain and the formula alone: so move lines in another order leave the same bytes, and so do
-// repeated pairs in the results (`same_bytes` and `same-report` of specs/Alike); and where other marks are lent, long enough as well, all other
-// buffers are left the same (`same-but-for-marks` of specs/OtherMarks).
+// repeated pairs in the results (`same_bytes` and `same_report` of specs/Alike); and where other marks are lent, long enough as well, all other
+// buffers are left the same (`same_but_for_marks` of specs/OtherMarks).
 pub fn check(
     moves: &[u8],
     labels: &[u8],

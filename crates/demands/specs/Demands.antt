@@ -50,7 +50,7 @@ module _ (j : Job) (before : Buffers (List ℕ)) (a : Answer) (after : Buffers (
   eight_is_never_given h = proved.never j before a after 8 (refusal_number_not_8 j (lengths before)) finished h
 
   -- Demand 2. "Read and decided as 01 defines: accepted when layouts and limits hold and only then; .. depth .. exact". The number is that of
-  -- the first test that holds; the chain, with its rates and labels, and the formula are those of the texts (csl's jobChain, jobFormula).
+  -- the first test that holds; the chain, with its rates and labels, and the formula are those of the texts (csl's job_chain, job_formula).
   pub refused_by_its_number : (number : ℕ) → refusal j (lengths before) ≡ some number → a ≡ refused_with number
   refused_by_its_number number h = proved.refused_so j before a after finished number h
 
