@@ -13,7 +13,8 @@ use Rattle.csl.specs.Verdicts.{Verdict, No, Yes, Undecided, as_no, as_yes, least
 use Rattle.csl.specs.Ends.{EndsAt}
 use Rattle.csl.proofs.Laws.PointEnds.{still_lower_lem, still_upper_lem}
 use Rattle.csl.proofs.Laws.BetweenEnds.{between_impossible, between_still_ends}
-use Rattle.csl.proofs.Laws.Decided.{all_decided, all_decided_lem}
+use Rattle.csl.specs.Laws.Decided.{all_decided}
+use Rattle.csl.proofs.Laws.Decided.{all_decided_lem}
 use Rattle.csl.proofs.Laws.Sum.{greatest_le}
 use Rattle.bounds.specs.Width.{most_depth}
 use Rattle.bounds.specs.StepValues.{StartedRounds, pointed, most_gap, gap_of, earlier_gap}

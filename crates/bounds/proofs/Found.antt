@@ -21,11 +21,14 @@ use Rattle.csl.specs.Report.{Reported}
 use Rattle.csl.specs.Refusal.{in_load}
 use Rattle.csl.proofs.Laws.NextEnds.{ends_next}
 use Rattle.csl.proofs.Laws.BetweenEnds.{until_between}
-use Rattle.csl.proofs.Laws.Decided.{all_decided, all_decided_lem, decided_all, all_decided_same}
+use Rattle.csl.specs.Laws.Decided.{all_decided}
+use Rattle.csl.proofs.Laws.Decided.{all_decided_lem, decided_all, all_decided_same}
 use Rattle.csl.proofs.Laws.Sum.{greatest_cong}
 use Rattle.csl.proofs.Laws.Ruled.{tells_itself}
-use Rattle.csl.proofs.Laws.Ruling.{ruled_verdict, verdict_ruled}
-use Rattle.csl.proofs.Laws.Search.{leads_in, leads_told}
+use Rattle.csl.specs.Laws.Ruling.{ruled_verdict}
+use Rattle.csl.proofs.Laws.Ruling.{verdict_ruled}
+use Rattle.csl.specs.Laws.Search.{leads_in}
+use Rattle.csl.proofs.Laws.Search.{leads_told}
 use Rattle.csl.proofs.Laws.NextGraph.{upper_tells, lower_tells}
 use Rattle.bounds.specs.Unit.{unit}
 use Rattle.bounds.proofs.Ends.{end_same}

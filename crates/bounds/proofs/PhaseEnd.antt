@@ -7,7 +7,8 @@ use Rattle.numbers.specs.Hint.{le_times, div_low, div_high}
 use Rattle.csl.specs.Fraction.{Fraction, frac, Below, billionths}
 use Rattle.csl.specs.Chain.{Chain, top_rate}
 use Rattle.csl.specs.Phase.{Phase, divisor, step_top, step_value, quotient}
-use Rattle.csl.proofs.Laws.Steps.{Starts, step_le}
+use Rattle.csl.specs.Laws.Steps.{Starts}
+use Rattle.csl.proofs.Laws.Steps.{step_le}
 use Rattle.csl.proofs.Laws.Left.{left_of, left_above}
 use Rattle.bounds.specs.Weight.{Middle}
 use Rattle.bounds.specs.Exact.{power}

@@ -9,9 +9,9 @@ use Rattle.csl.specs.Verdicts.{Verdict, Yes, marked, negation, conjunction, judg
 use Rattle.csl.specs.Until.{until_phase}
 use Rattle.csl.specs.Next.{next_lower, next_upper}
 use Rattle.csl.specs.Report.{lower_of as plain_lower, upper_of as plain_upper}
-use Rattle.csl.proofs.Laws.Decided.{all_decided}
-use Rattle.csl.proofs.Laws.Ruling.{ruled_verdict}
-use Rattle.csl.proofs.Laws.Search.{leads_in}
+use Rattle.csl.specs.Laws.Decided.{all_decided}
+use Rattle.csl.specs.Laws.Ruling.{ruled_verdict}
+use Rattle.csl.specs.Laws.Search.{leads_in}
 use Rattle.bounds.specs.Rounded.{rounded, started_rounded}
 use Rattle.bounds.specs.UntilEnds.{until_lower, until_upper}
 use Rattle.bounds.specs.EarlierEnds.{earlier_lower, earlier_upper}

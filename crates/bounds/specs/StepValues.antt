@@ -5,7 +5,7 @@ use Rattle.csl.specs.Limits.{billion}
 use Rattle.csl.specs.Chain.{Chain, greatest, top_rate}
 use Rattle.csl.specs.Phase.{Phase, bit, moved}
 use Rattle.csl.specs.Verdicts.{Verdict, No, Yes, Undecided, as_no, as_yes}
-use Rattle.csl.proofs.Laws.Decided.{all_decided}
+use Rattle.csl.specs.Laws.Decided.{all_decided}
 use Rattle.bounds.specs.Unit.{unit, one}
 use Rattle.bounds.specs.Ends.{lower_end}
 use Rattle.bounds.specs.Upper.{upper_end}

@@ -3,7 +3,8 @@ use Rattle.std.specs.Prelude.{◌≡◌, List, ℕ, length}
 use Rattle.csl.specs.Formula.{nodes}
 use Rattle.csl.specs.Lent.{Buffers, lengths}
 use Rattle.csl.specs.Refusal.{Job, job_states, job_moves, short_buffer, Outcome, refused, accepted, outcome}
-use Rattle.csl.proofs.Laws.Lending.{ButForMarks, filled_alike, outcome_alike}
+use Rattle.csl.specs.Laws.Lending.{ButForMarks}
+use Rattle.csl.proofs.Laws.Lending.{filled_alike, outcome_alike}
 use Rattle.bounds.specs.Found.{report_lower, report_upper, found}
 use Rattle.checker.specs.Leaves.{left_by, leaves}
 

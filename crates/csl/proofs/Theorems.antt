@@ -49,7 +49,8 @@ use Rattle.csl.proofs.Laws.Backing.{kept_operands}
 use Rattle.csl.proofs.Laws.Throughout.{throughout, sides, sides_throughout, Together, backings_agree}
 use Rattle.csl.proofs.Laws.Grammar.{read_if_spelled, spelled_if_read}
 use Rattle.csl.proofs.Laws.Order.{rows_rank, ordered_in_order, only_in_order, order_same}
-use Rattle.csl.proofs.Laws.Lending.{marks_alone, marks_short, marks_left_lem, ButForMarks, long_alike, finished_alike}
+use Rattle.csl.specs.Laws.Lending.{ButForMarks}
+use Rattle.csl.proofs.Laws.Lending.{marks_alone, marks_short, marks_left_lem, long_alike, finished_alike}
 use Rattle.csl.proofs.Laws.Bench as bench
 use Rattle.csl.proofs.Laws.BenchNext as next-bench
 use Rattle.csl.proofs.Laws.BenchGraph as graph-bench

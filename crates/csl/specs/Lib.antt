@@ -31,3 +31,4 @@ pub mod Finished
 pub mod Copy
 pub mod Import
 pub mod Bench
+pub mod Laws

@@ -24,7 +24,7 @@ use Rattle.csl.specs.Report.{Reported, backing_of, depth_of}
 use Rattle.csl.specs.Lent.{Buffers, lengths}
 use Rattle.csl.specs.Refusal.{Job, job_states, job_moves, job_chain, job_formula, refusal, accepted, outcome}
 use Rattle.csl.specs.Finished.{Answer, refused_with, accepted_with, Finished}
-use Rattle.csl.proofs.Laws.Lending.{ButForMarks}
+use Rattle.csl.specs.Laws.Lending.{ButForMarks}
 use Rattle.csl.proofs.Theorems as theorems
 use Rattle.same_chain.specs.SameJob.{SameLines}
 use Rattle.same_chain.specs.Theorems as same

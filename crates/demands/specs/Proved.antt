@@ -19,7 +19,8 @@ use Rattle.csl.specs.Refusal.{Job, job_sheet, job_states, job_moves, job_chain, 
 use Rattle.csl.specs.Finished.{Answer, refused_with, accepted_with, Finished, FinishedBy}
 use Rattle.csl.proofs.Theorems as theorems
 use Rattle.csl.proofs.Laws.Order.{ordered_length}
-use Rattle.csl.proofs.Laws.Lending.{ButForMarks, refusal_alike}
+use Rattle.csl.specs.Laws.Lending.{ButForMarks}
+use Rattle.csl.proofs.Laws.Lending.{refusal_alike}
 use Rattle.accepted.specs.Order.{first_found}
 use Rattle.accepted.specs.Rates.{others}
 use Rattle.accepted.specs.Rates as rates

@@ -12,12 +12,14 @@ use Rattle.csl.specs.Chain.{Chain}
 use Rattle.csl.specs.Verdicts.{Verdict, Decided, as_no, least, marked}
 use Rattle.csl.specs.Graph.{Leads, Tells}
 use Rattle.csl.specs.Lent.{verdict_byte}
-use Rattle.csl.proofs.Laws.Decided.{all_decided, all_decided_lem, decided_all}
+use Rattle.csl.specs.Laws.Decided.{all_decided}
+use Rattle.csl.proofs.Laws.Decided.{all_decided_lem, decided_all}
 use Rattle.csl.proofs.Laws.Verdicts.{as_no_mark}
 use Rattle.csl.proofs.Laws.Graph.{SameOn, same_back, possible_same}
 use Rattle.csl.proofs.Laws.Ruled.{tells_one, tells_same}
-use Rattle.csl.proofs.Laws.Ruling.{is_zero_or_one, possible_verdict, certain_verdict, moves_verdict}
-use Rattle.csl.proofs.Laws.Search.{leads_in, leads_told}
+use Rattle.csl.specs.Laws.Ruling.{is_zero_or_one, possible_verdict, certain_verdict, moves_verdict}
+use Rattle.csl.specs.Laws.Search.{leads_in}
+use Rattle.csl.proofs.Laws.Search.{leads_told}
 use Rattle.numbers.specs.Filled.{at, Table, table_at, table_rest, filled_as}
 use Rattle.bounds.specs.Found.{decided_path, possible_path, certain_path}
 use Rattle.verdicts.specs.Byte.{verdict_at, verdicts, byte_read}

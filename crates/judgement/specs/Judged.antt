@@ -5,8 +5,8 @@ use Rattle.csl.specs.Formula.{Comparison, PathOf, until_of}
 use Rattle.csl.specs.Chain.{Chain}
 use Rattle.csl.specs.Verdicts.{Verdict, judged, as_no}
 use Rattle.csl.specs.Lent.{verdict_byte}
-use Rattle.csl.proofs.Laws.Decided.{all_decided}
-use Rattle.csl.proofs.Laws.Ruling.{is_zero_or_one, ruled_verdict}
+use Rattle.csl.specs.Laws.Decided.{all_decided}
+use Rattle.csl.specs.Laws.Ruling.{is_zero_or_one, ruled_verdict}
 use Rattle.numbers.specs.Filled.{at, Table}
 use Rattle.bounds.specs.Found.{decided_path, possible_path, certain_path}
 use Rattle.verdicts.specs.Byte.{verdict_at, verdicts}

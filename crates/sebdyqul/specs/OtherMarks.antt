@@ -4,7 +4,7 @@ use Rattle.std.proofs.Common.{ap, sym, ◌∙◌}
 use Rattle.csl.specs.Lent.{Buffers, lengths}
 use Rattle.csl.specs.Refusal.{Job, short_buffer, Outcome, refused, accepted, outcome}
 use Rattle.csl.specs.Finished.{Answer, refused_with, accepted_with, Finished, FinishedBy}
-use Rattle.csl.proofs.Laws.Lending.{ButForMarks}
+use Rattle.csl.specs.Laws.Lending.{ButForMarks}
 use Rattle.checker.specs.OtherMarks.{same_but_for_marks}
 use Rattle.sebdyqul.specs.Called.{answer_from, Called}
 

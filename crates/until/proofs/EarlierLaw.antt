@@ -7,7 +7,8 @@ use native.Mathlib.Omega.{arith}
 use lib.Dec.{eqb}
 use Rattle.csl.specs.Limits.{billion}
 use Rattle.csl.specs.Verdicts.{No}
-use Rattle.csl.proofs.Laws.Decided.{all_decided, decided_all}
+use Rattle.csl.specs.Laws.Decided.{all_decided}
+use Rattle.csl.proofs.Laws.Decided.{decided_all}
 use Rattle.bounds.specs.Unit.{unit}
 use Rattle.bounds.specs.StepValues.{pointed, started_phase, earlier_gap}
 use Rattle.bounds.proofs.StepValues.{verdict_at}

@@ -11,7 +11,8 @@ use lib.Dec.{leb}
 use borrow.Author.Tests.{le-leb, lt-leb, ne_eqb}
 use Rattle.csl.specs.Chain.{greatest}
 use Rattle.csl.specs.Verdicts.{Decided}
-use Rattle.csl.proofs.Laws.Decided.{all_decided, all_decided_lem, decided_all}
+use Rattle.csl.specs.Laws.Decided.{all_decided}
+use Rattle.csl.proofs.Laws.Decided.{all_decided_lem, decided_all}
 use Rattle.numbers.specs.Sum.{greatest_cong, greatest_most}
 use Rattle.bounds.specs.Unit.{unit}
 use Rattle.bounds.specs.StepValues.{most_gap, gap_of}

@@ -3,7 +3,7 @@ use Rattle.std.specs.Prelude.{◌≡◌, Bool, true, false, cond, ◌&&◌, List
 use Rattle.csl.specs.Limits.{billion, most_states, most_rate, rate_hundredths}
 use Rattle.csl.specs.Chain.{sum_to}
 use Rattle.csl.specs.Report as report
-use Rattle.csl.proofs.Laws.Decided.{all_decided}
+use Rattle.csl.specs.Laws.Decided.{all_decided}
 use Rattle.bounds.specs.Weight.{peak}
 use Rattle.bounds.specs.Unit.{unit, one, scale, grain, part}
 use Rattle.bounds.specs.Ends.{lower_end}

@@ -5,7 +5,7 @@ use Rattle.std.proofs.Common.{arith}
 use Rattle.csl.specs.Limits.{billion, rate_hundredths}
 use Rattle.csl.specs.Chain.{Chain, sum_to}
 use Rattle.csl.specs.Phase.{Phase}
-use Rattle.csl.proofs.Laws.Steps.{Starts}
+use Rattle.csl.specs.Laws.Steps.{Starts}
 use Rattle.bounds.specs.Weight.{peak, low}
 use Rattle.bounds.specs.Unit.{one, scale, part}
 use Rattle.bounds.specs.Ends.{total, last_step, lower_end}

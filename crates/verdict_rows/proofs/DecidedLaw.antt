@@ -12,8 +12,9 @@ use Rattle.csl.specs.Limits.{billion}
 use Rattle.csl.specs.Formula.{Comparison}
 use Rattle.csl.specs.Verdicts.{Verdict, marked}
 use Rattle.csl.specs.Lent.{verdict_byte}
-use Rattle.csl.proofs.Laws.Decided.{is_decided, all_decided, all_decided_lem, decided_is}
-use Rattle.csl.proofs.Laws.Ruling.{moves_verdict}
+use Rattle.csl.specs.Laws.Decided.{is_decided, all_decided}
+use Rattle.csl.proofs.Laws.Decided.{all_decided_lem, decided_is}
+use Rattle.csl.specs.Laws.Ruling.{moves_verdict}
 use Rattle.verdicts.specs.Byte.{verdict_at, verdicts, read_as}
 use Rattle.verdict_rows.specs.Byte.{told_byte, next_byte}
 

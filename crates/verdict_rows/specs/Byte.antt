@@ -3,7 +3,7 @@ use Rattle.std.specs.Prelude.{ℕ, ◌/◌, ◌%◌, ◌^◌, cond, eqb, ltb}
 use Rattle.csl.specs.Limits.{billion}
 use Rattle.csl.specs.Formula.{Comparison}
 use Rattle.csl.specs.Verdicts.{marked, negation, conjunction, judged, as_no}
-use Rattle.csl.proofs.Laws.Ruling.{moves_verdict}
+use Rattle.csl.specs.Laws.Ruling.{moves_verdict}
 use Rattle.csl.specs.Lent.{verdict_byte}
 use Rattle.verdicts.specs.Byte.{verdict_at}
 

@@ -1,6 +1,6 @@
 // The row of a node: from nothing, from words, or from the rows of its operands.
 ghost use Rattle.std.specs.Prelude.{◌≡◌, ◌+◌, ◌<◌, ◌≤◌, length, get_or};
-ghost use Rattle.csl.proofs.Laws.Decided.{all_decided};
+ghost use Rattle.csl.specs.Laws.Decided.{all_decided};
 ghost use Rattle.verdicts.specs.Paper.{comparison_of};
 ghost use Rattle.verdicts.specs.Byte.{verdicts};
 ghost use Rattle.verdict_rows.specs.Byte.{label_byte, negated_byte, joined_byte, judged_byte, told_byte, next_byte};

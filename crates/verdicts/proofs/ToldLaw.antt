@@ -8,8 +8,8 @@ use borrow.Author.Tests.{eqb-true, eqb-false, ne_eqb, lt-leb}
 use Rattle.csl.specs.Limits.{billion}
 use Rattle.csl.specs.Formula.{Comparison}
 use Rattle.csl.specs.Verdicts.{Verdict, No, Yes, Undecided}
-use Rattle.csl.proofs.Laws.Decided.{is_decided}
-use Rattle.csl.proofs.Laws.Ruling.{possible_verdict, certain_verdict, is_zero_or_one, moves_verdict}
+use Rattle.csl.specs.Laws.Decided.{is_decided}
+use Rattle.csl.specs.Laws.Ruling.{possible_verdict, certain_verdict, is_zero_or_one, moves_verdict}
 use Rattle.verdicts.specs.Byte.{verdict_at}
 
 module _ (p : ℕ) where

@@ -1,6 +1,6 @@
 // The verdict of a `P` that the moves decide, which has the threshold 0 or 1,000,000,000.
 ghost use Rattle.std.specs.Prelude.{◌≡◌};
-ghost use Rattle.csl.proofs.Laws.Ruling.{possible_verdict, certain_verdict, is_zero_or_one, moves_verdict};
+ghost use Rattle.csl.specs.Laws.Ruling.{possible_verdict, certain_verdict, is_zero_or_one, moves_verdict};
 ghost use Rattle.verdicts.specs.Paper.{verdict_of, comparison_of};
 
 use crate::comparison::Comparison;

@@ -1,7 +1,7 @@
 // What is known of a node at a state.
 ghost use Rattle.std.specs.Prelude.{◌≡◌};
 ghost use Rattle.csl.specs.Verdicts.{marked, negation, conjunction};
-ghost use Rattle.csl.proofs.Laws.Decided.{is_decided};
+ghost use Rattle.csl.specs.Laws.Decided.{is_decided};
 ghost use Rattle.csl.specs.Lent.{verdict_byte};
 ghost use Rattle.verdicts.specs.Paper.{verdict_of};
 ghost use Rattle.verdicts.specs.Byte.{verdict_at, read_as};

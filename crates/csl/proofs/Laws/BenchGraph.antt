@@ -17,7 +17,8 @@ use Rattle.csl.proofs.Laws.Verdicts.{as_no_mark}
 use Rattle.csl.proofs.Laws.Readings.{marks_decided}
 use Rattle.csl.proofs.Laws.Graph.{SameOn, same_back, possible_same, enters_same, only_same}
 use Rattle.csl.proofs.Laws.Ruled.{tells_itself, tells_same, tells_one}
-use Rattle.csl.proofs.Laws.Search.{any_below, grown, leads_in, leads_told}
+use Rattle.csl.specs.Laws.Search.{any_below, grown, leads_in}
+use Rattle.csl.proofs.Laws.Search.{leads_told}
 use Rattle.csl.proofs.Laws.NextGraph.{upper_tells, lower_tells}
 
 -- what tells the opposite is the opposite

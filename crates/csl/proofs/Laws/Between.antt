@@ -9,7 +9,8 @@ use Rattle.csl.specs.Verdicts.{Verdict, Reading, least, most}
 use Rattle.csl.specs.Until.{until_phase, until_quotient}
 use Rattle.csl.specs.Between.{later_quotient, earlier_phase, between_quotient}
 use Rattle.csl.proofs.Laws.Fraction.{Under}
-use Rattle.csl.proofs.Laws.Steps.{Starts, PhaseUnder, step_le, step_rises, divisor_some}
+use Rattle.csl.specs.Laws.Steps.{Starts, PhaseUnder}
+use Rattle.csl.proofs.Laws.Steps.{step_le, step_rises, divisor_some}
 use Rattle.csl.proofs.Laws.Quotient.{quotient_is, quotient_le, quotient_rises, Implies, until_is, until_le, until_rises, as_no_least, as_yes_greatest}
 
 -- values of one divisor have quotients of one divisor

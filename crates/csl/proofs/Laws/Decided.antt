@@ -1,5 +1,5 @@
 -- Whether some state is undecided, computed; and that decided verdicts have one reading. Assumes nothing.
-use Rattle.std.specs.Prelude.{◌≡◌, refl, Bool, true, false, ◌&&◌, ◌⊎◌, ℕ, zero, suc, ◌<◌}
+use Rattle.std.specs.Prelude.{◌≡◌, refl, Bool, true, false, ℕ, zero, suc, ◌<◌}
 use Rattle.std.proofs.lemmas.Bool.{false≢true}
 use Rattle.std.proofs.Math.Bool.{and-eq-true_iff}
 use Rattle.std.proofs.Common.{inl, inr, ⊎_elim, arith}
@@ -7,16 +7,7 @@ use Rattle.std.proofs.Math.Nat.{le-suc_iff}
 use Rattle.csl.specs.Chain.{Chain}
 use Rattle.csl.specs.Verdicts.{Verdict, No, Yes, Undecided, Agrees, Reading, Decided, least}
 use Rattle.csl.specs.Graph.{AllDecided}
-
-abbrev pub is_decided : Verdict → Bool
-is_decided No = true
-is_decided Yes = true
-is_decided Undecided = false
-
--- none of the first n states is undecided
-unfoldable pub all_decided : ℕ → (ℕ → Verdict) → Bool
-all_decided zero v = true
-all_decided (suc n) v = all_decided n v && is_decided (v n)
+use Rattle.csl.specs.Laws.Decided.{Either, all_decided, is_decided}
 
 is_decided_lem : (v : Verdict) → is_decided v ≡ true → Decided v
 is_decided_lem No h = tt
@@ -46,10 +37,6 @@ pub all_decided_same : (n : ℕ) (v w : ℕ → Verdict) → ((s : ℕ) → s < 
 unfolding all_decided
 all_decided_same zero v w h = refl
 all_decided_same (suc n) v w h = rw (all_decided_same n v w (λ s l. h s (omega arith)), h n (omega arith)) refl
-
--- so it is either way
-abbrev pub Either : Type 0 → Type 0
-Either A = A ⊎ (A → ⊥)
 
 pub decided_or_not : (c : Chain) (v : ℕ → Verdict) → Either (AllDecided c v)
 decided_or_not c v = go (all_decided c.states v) refl

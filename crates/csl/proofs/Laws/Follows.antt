@@ -13,7 +13,8 @@ use Rattle.csl.specs.Path.{Reads, reads_until, reads_next, reads_between, value_
 use Rattle.csl.proofs.Laws.Next.{next_le}
 use Rattle.csl.proofs.Laws.Enclosure.{Encloses, value_is}
 use Rattle.csl.proofs.Laws.Sides.{judged_sides, one_verdict}
-use Rattle.csl.proofs.Laws.Decided.{Either, decided_or_not, both_or_not, one_reading}
+use Rattle.csl.specs.Laws.Decided.{Either}
+use Rattle.csl.proofs.Laws.Decided.{decided_or_not, both_or_not, one_reading}
 use Rattle.csl.proofs.Laws.Judging.{Settles, settles}
 use Rattle.csl.proofs.Laws.Graph.{limit_low, until_some, until_none, until_full, until_part, until_within, next_some, next_none, next_full, next_part}
 use Rattle.csl.proofs.Laws.Graph.{SameOn, same_back, possible_same, enters_same, only_same}

@@ -10,19 +10,13 @@ use Rattle.csl.specs.Verdicts.{Verdict}
 use Rattle.csl.specs.Lent.{Buffers, lengths, needed, Room, room, rooms, is_short, written, filled}
 use Rattle.csl.specs.Refusal.{Job, job_states, job_moves, test, text_tests, first_of, refusal, short_buffer, Outcome, refused, accepted, outcome, outcome_by}
 use Rattle.csl.specs.Finished.{Answer, Finished, FinishedBy}
+use Rattle.csl.specs.Laws.Lending.{ButForMarks, others}
 
 -- something in a list passes if something before its last does, or the last
 any_last : (p : Room → Bool) (xs : List Room) (x : Room) → any p (xs ++ (x ∷ [])) ≡ (any p xs || p x)
 unfolding any
 any_last p [] x = or-false (p x)
 any_last p (y ∷ ys) x = rw (any_last p ys x) (sym (or_assoc (p y) (any p ys) (p x)))
-
--- whether one of the other six buffers is too short
-abbrev others : Buffers ℕ → (n m : ℕ) → Bool
-others l n m =
-    any (λ r. ltb r.lent r.need)
-    (room l.lower n ∷ room l.upper n ∷ room l.verdicts n ∷ room l.order n ∷ room l.moves (needed n m 0).moves
-    ∷ room l.vectors (needed n m 0).vectors ∷ [])
 
 others_or_marks : (l : Buffers ℕ) (n m k : ℕ) → is_short l (needed n m k) ≡ (others l n m || ltb l.marks (min (most_rows * n) (k * n)))
 unfolding is_short rooms
@@ -47,15 +41,6 @@ pub marks_left_lem : (n m k : ℕ) (lower upper : ℕ → ℕ) (v : ℕ → Verd
 unfolding filled written
 marks_left_lem n m k lower upper v old =
     ap (λ (i : ℕ). replicate (needed n m k).marks 0 ++ drop i old.marks) (length-replicate {A = ℕ} (needed n m k).marks 0)
-
--- buffers that hold the same but for the marks
-pub record ButForMarks (x y : Buffers (List ℕ)) : Type 0 where
-  pub lower : x.lower ≡ y.lower
-  pub upper : x.upper ≡ y.upper
-  pub verdicts : x.verdicts ≡ y.verdicts
-  pub order : x.order ≡ y.order
-  pub moves : x.moves ≡ y.moves
-  pub vectors : x.vectors ≡ y.vectors
 
 -- no buffer is too short where none was and there are enough of the other marks
 pub long_alike : (x y : Buffers (List ℕ)) → ButForMarks x y → (n m k : ℕ) → is_short (lengths x) (needed n m k) ≡ false

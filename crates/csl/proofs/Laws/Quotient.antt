@@ -7,7 +7,8 @@ use Rattle.csl.specs.Phase.{bit, step_value, weight, quotient}
 use Rattle.csl.specs.Verdicts.{Verdict, No, Yes, Undecided, Agrees, Reading, as_no, as_yes, least, most}
 use Rattle.csl.specs.Until.{until_phase, until_quotient, low_quotient, high_quotient}
 use Rattle.csl.proofs.Laws.Fraction.{Under, under_sum, under_times, under_over, below_sum, times_below, sum_is, sum_some}
-use Rattle.csl.proofs.Laws.Steps.{Starts, PhaseUnder, step_le, step_rises, divisor_some}
+use Rattle.csl.specs.Laws.Steps.{Starts, PhaseUnder}
+use Rattle.csl.proofs.Laws.Steps.{step_le, step_rises, divisor_some}
 
 pub weight_is : (l : Fraction) → IsFraction l → (k : ℕ) → IsFraction (weight l k)
 unfolding weight

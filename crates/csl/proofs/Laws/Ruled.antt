@@ -7,7 +7,7 @@ use Rattle.csl.specs.Limits.{billion}
 use Rattle.csl.specs.Formula.{Comparison, Less, AtMost, AtLeast, More}
 use Rattle.csl.specs.Verdicts.{Verdict, No, Yes, Undecided, marked, negation, Decided}
 use Rattle.csl.specs.Graph.{Tells, ByPossible, ByCertain, Ruled}
-use Rattle.csl.proofs.Laws.Decided.{Either}
+use Rattle.csl.specs.Laws.Decided.{Either}
 use Rattle.csl.proofs.Laws.Judging.{Says}
 
 -- which rule holds

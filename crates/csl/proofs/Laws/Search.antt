@@ -17,16 +17,7 @@ use Rattle.csl.specs.Verdicts.{marked}
 use Rattle.csl.specs.Graph.{Leads, arrived, moves, Tells}
 use Rattle.csl.proofs.Laws.Sum.{sum_less}
 use Rattle.csl.proofs.Laws.Quotient.{bit_le, bit_rises}
-
--- p holds of some number below n
-unfoldable pub any_below : (ℕ → Bool) → ℕ → Bool
-any_below p zero = false
-any_below p (suc n) = any_below p n || p n
-
-record SomeBelow (p : ℕ → Bool) (n : ℕ) : Type 0 where
-  pub place : ℕ
-  pub under : place < n
-  pub holds : p place ≡ true
+use Rattle.csl.specs.Laws.Search.{SomeBelow, any_below, grown, leads_in}
 
 or-true : (a b : Bool) → (a || b) ≡ true → (a ≡ true) ⊎ (b ≡ true)
 or-true true b h = inl refl
@@ -52,15 +43,6 @@ any_is p zero i l h = absurd (omega arith)
 any_is p (suc n) i l h =
     ⊎_elim (λ m. or_left (any_below p n) (p n) (any_is p n i m h))
     (λ (e : suc i ≡ suc n). let q : i ≡ n = omega arith in or_right (any_below p n) (p n) (rw q at h)) (le-suc_iff.0 l)
-
--- the states of the second operand, and those of the first from which a move enters p
-unfoldable pub grown : Chain → (x y : ℕ → Bool) → (ℕ → Bool) → ℕ → Bool
-grown c x y p s = y s || x s && any_below (λ t. ltb 0 (c.rate s t) && p t) c.states
-
--- the states that lead to one of the second operand in at most k moves
-unfoldable pub leads_in : Chain → (x y : ℕ → Bool) → ℕ → ℕ → Bool
-leads_in c x y zero s = y s
-leads_in c x y (suc k) s = grown c x y (leads_in c x y k) s
 
 module _ (c : Chain) (x y : ℕ → Bool) where
   -- marks p that are sound, hold at each state of the second operand, and wherever a state of the first moves into them

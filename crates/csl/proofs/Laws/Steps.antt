@@ -5,6 +5,7 @@ use Rattle.std.proofs.lemmas.Bool.{false≢true, eqb-false}
 use Rattle.csl.specs.Chain.{Chain, away, exit_rate, top_rate}
 use Rattle.csl.specs.Phase.{Phase, divisor, moved, stepped, step_top}
 use Rattle.csl.proofs.Laws.Sum.{greatest_le, sum_weighted, sum_rises}
+use Rattle.csl.specs.Laws.Steps.{PhaseUnder, Starts}
 
 pub exit_le : (c : Chain) (s : ℕ) → s < c.states → exit_rate c s ≤ top_rate c
 unfolding top_rate
@@ -56,10 +57,6 @@ stepped_rises false false true false nil' b b' u u' m m' o z h k e l = omega ari
 stepped_rises false false false false true b b' u u' m m' o z h k e l = absurd (false≢true (z refl))
 stepped_rises false false false false false b b' u u' m m' o z h k e l = k
 
--- a phase starts from 0 to 1
-abbrev pub Starts : Chain → Phase → Type 0
-Starts c ph = (s : ℕ) → s < c.states → ph.start s ≤ ph.whole
-
 -- step values lie from 0 to 1
 pub step_le : (c : Chain) (ph : Phase) → Starts c ph → (k s : ℕ) → s < c.states → step_top c ph k s ≤ divisor c ph.whole k
 unfolding step_top divisor
@@ -67,13 +64,6 @@ step_le c ph h zero s l = h s l
 step_le c ph h (suc k) s l =
     stepped_le (eqb (top_rate c) 0) (ph.one s) (ph.nil s) (step_top c ph k s) (divisor c ph.whole k) (moved c (step_top c ph k) s)
     (top_rate c) (step_le c ph h k s l) (moved_le c (step_top c ph k) (divisor c ph.whole k) s (step_le c ph h k) l)
-
--- one phase is under another: it starts lower, is 1 at fewer states and 0 at more
-pub record PhaseUnder (c : Chain) (ph ph' : Phase) : Type 0 where
-  pub wholes : ph.whole ≡ ph'.whole
-  pub starts : (s : ℕ) → s < c.states → ph.start s ≤ ph'.start s
-  pub ones : (s : ℕ) → s < c.states → ph.one s ≡ true → ph'.one s ≡ true
-  pub nils : (s : ℕ) → s < c.states → ph'.nil s ≡ true → ph.nil s ≡ true
 
 -- step values rise with the phase
 pub step_rises : (c : Chain) (ph ph' : Phase) → Starts c ph → PhaseUnder c ph ph' → (k s : ℕ) → s < c.states → step_top c ph k s ≤ step_top c ph' k s
