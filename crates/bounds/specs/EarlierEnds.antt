@@ -1,4 +1,5 @@
--- The two ends of an until between two times at a state, by cases as the code decides them, keep the rules for ends. Assumes nothing.
+-- The two ends of an until between two times at a state, by cases as the code decides them. That they keep the rules for ends is in
+-- proofs/EarlierEnds. Assumes nothing.
 use Rattle.std.specs.Prelude.{◌≡◌, Bool}
 use Rattle.std.proofs.Math.Bool.{true}
 use Prim.Native.Nat.{ℕ, ◌+◌, ◌*◌, ◌≤◌, ◌<◌}

@@ -1,5 +1,5 @@
--- The ends and verdicts that the checker finds, as functions of the chain and the formula alone; and that they are a backing. So every
--- job whose loads are in range has a report: the rules nowhere contradict each other. Assumes nothing.
+-- The ends and verdicts that the checker finds, as functions of the chain and the formula alone. That they are a backing, so that every job whose
+-- loads are in range has a report, is in proofs/Found. Assumes nothing.
 use Rattle.std.specs.Prelude.{Bool, false, cond, ◌&&◌, ltb, eqb}
 use Prim.Native.Nat.{ℕ, zero, suc, ◌-◌}
 use Rattle.csl.specs.Limits.{billion}

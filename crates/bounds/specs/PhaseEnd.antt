@@ -1,6 +1,6 @@
 -- The two ends of a phase of a chain at one state, from one run of lower values that are known up to an error at step 0, for a load a / b
--- with its greatest weight at step a / b, at the depth 2 × (a / b rounded up) + 40: the quotients from there on lie between them, and
--- they are at most 2 × D and the error apart. Assumes nothing.
+-- with its greatest weight at step a / b, at the depth 2 × (a / b rounded up) + 40. That the quotients from there on lie between them, and how far they
+-- are apart, is in proofs/PhaseEnd. Assumes nothing.
 use Rattle.std.specs.Prelude.{ℕ, ◌+◌, ◌*◌, ◌/◌, ◌≤◌}
 use Rattle.csl.specs.Limits.{spare_steps}
 use Rattle.csl.specs.Fraction.{frac, Below, billionths, round_up}

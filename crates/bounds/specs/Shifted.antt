@@ -1,5 +1,4 @@
--- A phase that starts a little higher: what its start lies above another's, its quotients lie above the other's at most. Nothing here rests on how
--- quotients move with the depth. Assumes nothing.
+-- When a phase starts a little higher than another. That its quotients lie above the other's by no more is in proofs/Shifted. Assumes nothing.
 use Rattle.std.specs.Prelude.{◌≡◌, false}
 use Prim.Native.Nat.{ℕ, ◌<◌}
 use Rattle.csl.specs.Fraction.{frac, Below, plus, billionths}

@@ -1,6 +1,5 @@
--- Until between two times: from ANY ends of the later phase that keep until's rules, at every state, the sums over the earlier phase give ends that
--- keep every rule: the lower ones started from the later phase's lower ends, the upper ones from its upper ends, or, where these are near the lower
--- ones, from the same run. Assumes nothing.
+-- The upper end of an earlier phase from a run that starts near the later phase's upper ends. That the sums over the earlier phase keep every rule,
+-- from any ends of the later one that keep until's, is in proofs/TwoPhases. Assumes nothing.
 use Prim.Native.Nat.{ℕ, ◌*◌, ◌/◌}
 use Rattle.csl.specs.Limits.{rate_hundredths}
 use Rattle.csl.specs.Chain.{Chain, top_rate, depth}

@@ -1,4 +1,4 @@
--- The two ends of an until at a state, by cases as the code decides them, keep the rules for ends. Assumes nothing.
+-- The two ends of an until at a state, by cases as the code decides them. That they keep the rules for ends is in proofs/UntilEnds. Assumes nothing.
 use Rattle.std.specs.Prelude.{ℕ, ◌*◌}
 use Rattle.csl.specs.Limits.{rate_hundredths}
 use Rattle.csl.specs.Chain.{Chain, top_rate, depth}

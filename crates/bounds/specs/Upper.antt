@@ -1,5 +1,5 @@
--- The upper end of a phase, from what its lower values gather: they lack at most e at step 0 and a unit more for each step, so what they
--- leave of 1, less that, lies below what the exact ones leave. Assumes nothing.
+-- The upper end of a phase, from what its lower values gather: they lack at most e at step 0 and a unit more for each step. That what they leave
+-- of 1, less that, lies below what the exact ones leave is in proofs/Upper. Assumes nothing.
 use Rattle.std.specs.Prelude.{ℕ, suc, ◌+◌, ◌*◌, ◌-◌, ◌/◌}
 use Rattle.csl.specs.Limits.{billion}
 use Rattle.csl.specs.Chain.{sum_to}

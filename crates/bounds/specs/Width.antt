@@ -1,5 +1,5 @@
--- The two ends of a phase, from one run of its values, are at most 2 × D apart to depth 1023, half of what the paper allows, and e units more where the values lacked e
--- at step 0. Assumes nothing.
+-- The greatest depth that the width is shown for, and what is asked of weights that halve. That the two ends of a phase are at most 2 × D apart is
+-- in proofs/Width. Assumes nothing.
 use Prim.Native.Nat.{ℕ, suc, ◌+◌, ◌*◌, ◌≤◌}
 use Rattle.bounds.specs.Weight.{Middle}
 

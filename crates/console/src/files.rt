@@ -6,7 +6,7 @@ use std::io::Read;
 use std::rt::Files;
 
 // Reads the file of this name to the front of `text` and answers how many bytes that is; of a file that is longer it reads as much as `text`
-// holds. A file that cannot be opened counts as empty, and so does one that cannot be read to its end.
+// holds. A file that cannot be opened counts as empty, as one does whose name is no UTF-8, and so does one that cannot be read to its end.
 //
 // Open is what the system's `read` puts into `text`, of which it promises nothing; so is how many bytes a file has.
 pub fn read_text(rt: &impl Files, name: &[u8], text: &mut [u8]) -> usize

@@ -1,8 +1,5 @@
 // What a program prints, and the sentences on refusals.
-ghost use Rattle.std.specs.Prelude.{IfOk};
 ghost use Rattle.console.specs.Told.{Told};
-
-use std::io;
 
 // What was written to be printed.
 #[derive(Drop)]
@@ -13,17 +10,19 @@ pub struct Written {
     pub number: u64,
 }
 
-// Prints a text, and where it tells of a refusal with this number says on standard error what that means. Answers whether it does; an error
-// where the text cannot be written whole.
-pub fn print(rt: &HostRuntime, program: &[u8], text: &[u8], number: u64) -> io::Result<bool>
-    ensures { IfOk result (λ told. Told number told) }
+// Prints a text, and where it tells of a refusal with this number says on standard error what that means. Answers whether it does. A text that
+// cannot be written whole is told on standard error too.
+pub fn print(rt: &HostRuntime, program: &[u8], text: &[u8], number: u64) -> bool
+    ensures { Told number result }
 {
-    rt.write_all(text)?;
+    if let Err(error) = rt.write_all(text) {
+        let _ = eprintln!(rt; "standard output: {error}");
+    }
     if number == 0 {
-        return Ok(false);
+        return false;
     }
     explain(rt, program, number);
-    Ok(true)
+    true
 }
 
 // Says on standard error what the number of a refusal means.

@@ -3,98 +3,97 @@
 #![tactic(auto)]
 
 use formula::Test;
-use std::io;
 
 // A line for each thing that is tried.
-fn say(rt: &impl Print, right: bool) -> io::Result<()> {
-    if right {
+fn say(rt: &impl Print, right: bool) {
+    let _ = if right {
         rt.write_all(b"ok\n")
     } else {
         rt.write_all(b"no\n")
-    }
+    };
 }
 
 // The text is readable with so many nodes and levels.
-fn sized(rt: &impl Print, text: &[u8], nodes: usize, levels: usize) -> io::Result<()> {
+fn sized(rt: &impl Print, text: &[u8], nodes: usize, levels: usize) {
     let r = formula::read(text, b",up,dead");
-    say(rt, r.readable && r.count == nodes && r.levels == levels)
+    say(rt, r.readable && r.count == nodes && r.levels == levels);
 }
 
 // The text breaks the grammar.
-fn broken(rt: &impl Print, text: &[u8]) -> io::Result<()> {
+fn broken(rt: &impl Print, text: &[u8]) {
     let r = formula::read(text, b",up,dead");
-    say(rt, !r.readable)
+    say(rt, !r.readable);
 }
 
 // So many nodes are laid out of the text, and pass the tests of labels, limits, order and load.
-fn laid(rt: &impl Print, text: &[u8], count: usize) -> io::Result<()> {
+fn laid(rt: &impl Print, text: &[u8], count: usize) {
     let r = formula::read(text, b",up,dead");
     let row = r.nodes;
-    say(rt, row.count == count)?;
-    say(rt, formula::all_pass(row, Test::Labels(2)))?;
-    say(rt, formula::all_pass(row, Test::Limits))?;
-    say(rt, formula::all_pass(row, Test::Order))?;
-    say(rt, formula::all_pass(row, Test::Load(64000000)))
+    say(rt, row.count == count);
+    say(rt, formula::all_pass(row, Test::Labels(2)));
+    say(rt, formula::all_pass(row, Test::Limits));
+    say(rt, formula::all_pass(row, Test::Order));
+    say(rt, formula::all_pass(row, Test::Load(64000000)));
 }
 
 // 255 times `!` before a label; 127 times `&` before 128 labels; 63 times `P < 1 X` before a label.
-fn deepest(rt: &impl Print) -> io::Result<()> {
+fn deepest(rt: &impl Print) {
     sized(
         rt,
         b"! ! ! ! ! ! ! ! ! ! ! ! ! ! ! ! ! ! ! ! ! ! ! ! ! ! ! ! ! ! ! ! ! ! ! ! ! ! ! ! ! ! ! ! ! ! ! ! ! ! ! ! ! ! ! ! ! ! ! ! ! ! ! ! ! ! ! ! ! ! ! ! ! ! ! ! ! ! ! ! ! ! ! ! ! ! ! ! ! ! ! ! ! ! ! ! ! ! ! ! ! ! ! ! ! ! ! ! ! ! ! ! ! ! ! ! ! ! ! ! ! ! ! ! ! ! ! ! ! ! ! ! ! ! ! ! ! ! ! ! ! ! ! ! ! ! ! ! ! ! ! ! ! ! ! ! ! ! ! ! ! ! ! ! ! ! ! ! ! ! ! ! ! ! ! ! ! ! ! ! ! ! ! ! ! ! ! ! ! ! ! ! ! ! ! ! ! ! ! ! ! ! ! ! ! ! ! ! ! ! ! ! ! ! ! ! ! ! ! ! ! ! ! ! ! ! ! ! ! ! ! ! ! ! ! ! ! ! ! ! ! ! ! ! ! ! ! ! ! ! ! ! ! ! ! a\n",
         256,
         256,
-    )?;
+    );
     sized(
         rt,
         b"& & & & & & & & & & & & & & & & & & & & & & & & & & & & & & & & & & & & & & & & & & & & & & & & & & & & & & & & & & & & & & & & & & & & & & & & & & & & & & & & & & & & & & & & & & & & & & & & & & & & & & & & & & & & & & & & & & & & & & & & & & & & & & & a a a a a a a a a a a a a a a a a a a a a a a a a a a a a a a a a a a a a a a a a a a a a a a a a a a a a a a a a a a a a a a a a a a a a a a a a a a a a a a a a a a a a a a a a a a a a a a a a a a a a a a a a a a a a a a a a a a a a a a a a a a a a a a a\n",
         255,
         128,
-    )?;
+    );
     sized(
         rt,
         b"P < 1 X P < 1 X P < 1 X P < 1 X P < 1 X P < 1 X P < 1 X P < 1 X P < 1 X P < 1 X P < 1 X P < 1 X P < 1 X P < 1 X P < 1 X P < 1 X P < 1 X P < 1 X P < 1 X P < 1 X P < 1 X P < 1 X P < 1 X P < 1 X P < 1 X P < 1 X P < 1 X P < 1 X P < 1 X P < 1 X P < 1 X P < 1 X P < 1 X P < 1 X P < 1 X P < 1 X P < 1 X P < 1 X P < 1 X P < 1 X P < 1 X P < 1 X P < 1 X P < 1 X P < 1 X P < 1 X P < 1 X P < 1 X P < 1 X P < 1 X P < 1 X P < 1 X P < 1 X P < 1 X P < 1 X P < 1 X P < 1 X P < 1 X P < 1 X P < 1 X P < 1 X P < 1 X P < 1 X a\n",
         64,
         64,
-    )
+    );
 }
 
 // A grammar fault behind more than 64 nodes and 16 levels.
-fn deep_faults(rt: &impl Print) -> io::Result<()> {
+fn deep_faults(rt: &impl Print) {
     broken(
         rt,
         b"! ! ! ! ! ! ! ! ! ! ! ! ! ! ! ! ! ! ! ! ! ! ! ! ! ! ! ! ! ! ! ! ! ! ! ! ! ! ! ! ! ! ! ! ! ! ! ! ! ! ! ! ! ! ! ! ! ! ! ! ! ! ! ! ! ! ! ! ! ! \n",
-    )?;
+    );
     broken(
         rt,
         b"& & & & & & & & & & & & & & & & & & & & & & & & & & & & & & & & & a a a a a a a a a a a a a a a a a a a a a a a a a a a a a a a a a\n",
-    )
+    );
 }
 
 // One level too many, and the deepest that are laid out, which pass all tests.
-fn deepest_laid(rt: &impl Print) -> io::Result<()> {
-    laid(rt, b"! ! ! ! ! ! ! ! ! ! ! ! ! ! ! ! up\n", 0)?;
+fn deepest_laid(rt: &impl Print) {
+    laid(rt, b"! ! ! ! ! ! ! ! ! ! ! ! ! ! ! ! up\n", 0);
     laid(
         rt,
         b"& & & & & & & & & & & & & & & up up up up up up up up up up up up up up up up\n",
         31,
-    )?;
+    );
     laid(
         rt,
         b"P < 1 U 1 P < 1 U 1 P < 1 U 1 P < 1 U 1 P < 1 U 1 P < 1 U 1 P < 1 U 1 P < 1 U 1 P < 1 U 1 P < 1 U 1 P < 1 U 1 P < 1 U 1 P < 1 U 1 P < 1 U 1 P < 1 U 1 up up up up up up up up up up up up up up up up\n",
         31,
-    )?;
+    );
     laid(
         rt,
         b"P < 1 V 1 2 P < 1 V 1 2 P < 1 V 1 2 P < 1 V 1 2 P < 1 V 1 2 P < 1 V 1 2 P < 1 V 1 2 P < 1 V 1 2 P < 1 V 1 2 P < 1 V 1 2 P < 1 V 1 2 P < 1 V 1 2 P < 1 V 1 2 P < 1 V 1 2 P < 1 V 1 2 up up up up up up up up up up up up up up up up\n",
         31,
-    )?;
-    laid(rt, b"! ! ! ! ! ! ! ! ! ! ! ! ! ! ! up\n", 16)
+    );
+    laid(rt, b"! ! ! ! ! ! ! ! ! ! ! ! ! ! ! up\n", 16);
 }
 
 // All of them.
-fn main(rt: HostRuntime) -> io::Result<()> {
-    deepest(&rt)?;
-    deep_faults(&rt)?;
-    deepest_laid(&rt)
+fn main(rt: HostRuntime) {
+    deepest(&rt);
+    deep_faults(&rt);
+    deepest_laid(&rt);
 }

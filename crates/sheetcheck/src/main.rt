@@ -6,10 +6,9 @@ mod answer;
 
 use answer::{TEXT_BYTES, write_answer};
 use console::{print, read_text};
-use std::io;
 
 // Each text has room for one byte more than its limit, so that a longer one is seen to be too long.
-fn main(rt: HostRuntime) -> io::Result<()> {
+fn main(rt: HostRuntime) {
     let mut moves = [0u8; limits::SHEET_BYTES + 1];
     let mut labels = [0u8; limits::SHEET_BYTES + 1];
     let mut formula = [0u8; limits::FORMULA_BYTES + 1];
@@ -19,6 +18,5 @@ fn main(rt: HostRuntime) -> io::Result<()> {
     let f = read_text(&rt, b"formula.txt", &mut formula);
     let written = write_answer(&moves[..m], &labels[..l], &formula[..f], &mut out);
     let n = written.length;
-    print(&rt, b"sheetcheck", &out[..n], written.number)?;
-    Ok(())
+    print(&rt, b"sheetcheck", &out[..n], written.number);
 }
