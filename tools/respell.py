@@ -4,7 +4,7 @@
 usage: tools/respell.py [--check] [ROOT]
 
 A name counts as our own where a file of specs/, or a file right in proofs/, declares it. What another library declares under the
-same spelling stays. In files of specs/ and right in proofs/ each such word turns; in a function's proof only what the file imports
+same spelling stays. In files of specs/, right in proofs/ and in proofs/Laws/ each such word turns; in a function's proof only what the file imports
 from us and the fields of our records, since the other words there are made by the checker; in code only the clauses.
 Where two names would fall together, the lemma gets _lem, and is told. --check writes nothing. It is to run once.
 """
@@ -41,7 +41,7 @@ def kind(root, path):
     parts = os.path.relpath(path, os.path.join(root, "crates")).split(os.sep)
     if path.endswith(".rt"):
         return "code"
-    return "function" if parts[1] == "proofs" and len(parts) > 3 else "law"
+    return "function" if parts[1] == "proofs" and len(parts) > 3 and parts[2] != "Laws" else "law"
 
 
 def loud(text):
@@ -146,6 +146,15 @@ def law(text, turned):
     return spelled(text, turned, lambda *_: True)
 
 
+def local(text, own):
+    """A file of laws with the names that it keeps to itself, however deep they stand, in the new spelling too."""
+    inside = {name for group in imports(text, own) for name in group}
+    names = {found.group(3) for found in DECLARED.finditer(loud(text)) if "pub" not in found.group(2)} - inside
+    there = set(WORD.findall(loud(text)))
+    turned = {name: snake(name) for name in names if snake(name) not in there}
+    return spelled(text, turned, lambda *_: True)
+
+
 def function(text, turned, fields, own):
     ours, _ = imports(text, own)
     bound = set(re.findall(r"\blet ([^\s:=]+)", text)) - ours
@@ -188,7 +197,7 @@ def main(words):
     for path in files(root):
         text = open(path, encoding="utf-8").read()
         what = kind(root, path)
-        new = law(text, turned) if what == "law" else code(text, turned) if what == "code" else function(text, turned, fields, own)
+        new = local(law(text, turned), own) if what == "law" else code(text, turned) if what == "code" else function(text, turned, fields, own)
         if new != text:
             count += 1
             if not check:

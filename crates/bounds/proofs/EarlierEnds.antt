@@ -58,14 +58,14 @@ module _ (c : Chain) (t u : ℕ) (v w : ℕ → Verdict) (lo up : ℕ → ℕ)
     gap : ℕ
     gap = earlier_gap c.states v lo up
 
-    by-gap : 0 < top_rate c * suc t → (z : Bool) → leb gap most_gap ≡ z → (v s ≡ No → ⊥)
+    by_gap : 0 < top_rate c * suc t → (z : Bool) → leb gap most_gap ≡ z → (v s ≡ No → ⊥)
         → EndsAt c (between_of (suc t) u v w) s (summed_lower c (suc t) val s) (cond z (near_end c (suc t) gap val s) (summed_upper c (suc t) high s))
     unfolding gap
-    by-gap p true e =
+    by_gap p true e =
         let n : Near (all_decided c.states v) (λ i. cond (as_no (v i)) (lo i) 0) (λ i. cond (as_yes (v i)) (up i) 0) c.states gap
         = gap_near (all_decided c.states v) (λ i. cond (as_no (v i)) (lo i) 0) (λ i. cond (as_yes (v i)) (up i) 0) c.states (leb-true gap most_gap e) in
         near_pairs c t u v w lo up later s in_range p small val (r p) gap (leb-true gap most_gap e) (all_decided_lem c.states v n.all) n.apart
-    by-gap p false e = summed_pairs c t u v w lo up later s in_range p small val (r p) high (r' p)
+    by_gap p false e = summed_pairs c t u v w lo up later s in_range p small val (r p) high (r' p)
 
     by_load : (z : Bool) → eqb (top_rate c * suc t) 0 ≡ z
         → EndsAt c (between_of (suc t) u v w) s (cond z (cond (as_no (v s)) (lo s) 0) (pointed (v s) No (summed_lower c (suc t) val s)))
@@ -74,7 +74,7 @@ module _ (c : Chain) (t u : ℕ) (v w : ℕ → Verdict) (lo up : ℕ → ℕ)
     by_load false e =
         let n : top_rate c * suc t ≡ 0 → ⊥ = eqb-false _ _ e in
         let p : 0 < top_rate c * suc t = omega arith in
-        point_pair (v s) _ _ refl (by-gap p (leb gap most_gap) refl)
+        point_pair (v s) _ _ refl (by_gap p (leb gap most_gap) refl)
 
     -- the ends keep every rule
     pub earlier_ends : EndsAt c (between_of (suc t) u v w) s (earlier_lower c (suc t) v lo val s) (earlier_upper c (suc t) v lo up val high s)

@@ -54,15 +54,15 @@ module _ (a b : ℕ) (load : 0 < a) (unit-some : 0 < b) where
 
   module _ (c : Chain) (ph : Phase) (moving : 0 < top_rate c) (some : 0 < ph.whole) (starts : Starts c ph) {e : ℕ} {val : ℕ → ℕ → ℕ}
       (r : Runs c ph e val) (s : ℕ) (in_range : s < c.states) where
-    lower-below : (n : ℕ) → phase_depth a b ≤ n
+    lower_below : (n : ℕ) → phase_depth a b ≤ n
         → Below (billionths (phase_lower a b (λ k. val k s))) (quotient (frac a b) (step_value c ph s) n)
-    lower-below =
+    lower_below =
         from_depth (top_rate c) ph.whole (λ k. val k s) (λ k. step_top c ph k s) (divisor c ph.whole) moving some
         (divisor_power c moving ph.whole) (λ k. values_below c moving r k s in_range)
 
-    left-of-one : (n : ℕ) → phase_depth a b ≤ n
+    left_of_one : (n : ℕ) → phase_depth a b ≤ n
         → Below (billionths (left_end a b (a / b) (phase_depth a b) e (λ k. val k s))) (quotient (frac a b) (left_of (step_value c ph s)) n)
-    left-of-one n h =
+    left_of_one n h =
         further_below (left_end a b (a / b) (phase_depth a b) e (λ k. val k s)) (phase_lower a b (λ k. remaining e k (val k s)))
         (quotient (frac a b) (left_of (step_value c ph s)) n)
         (left_lower a b (a / b) (phase_depth a b) e (λ k. val k s) (omega (arith, reach_middle)))
@@ -73,9 +73,9 @@ module _ (a b : ℕ) (load : 0 < a) (unit-some : 0 < b) where
         → PhaseEnds c ph a b e s (phase_lower a b (λ k. val k s)) (phase_upper a b e (λ k. val k s))
     phase_ends small =
         record {
-          below = lower-below;
+          below = lower_below;
           above = λ n h.
               left_above (frac a b) (step_value c ph s) (λ k. step_le c ph starts k s in_range) n
-              (left_end a b (a / b) (phase_depth a b) e (λ k. val k s)) (phase_upper a b e (λ k. val k s)) (omega arith) (left-of-one n h);
+              (left_end a b (a / b) (phase_depth a b) e (λ k. val k s)) (phase_upper a b e (λ k. val k s)) (omega arith) (left_of_one n h);
           near = width e (λ k. val k s) (record { middle = middle; early = reach_middle; halves = omega (arith, reach_halves); small = small });
         }

@@ -141,8 +141,8 @@ module _ (c : Chain) (t u : ℕ) (v w : ℕ → Verdict) (lo up : ℕ → ℕ)
     range : upper ≤ billion
 
   module _ (val : ℕ → ℕ → ℕ) (r : StartedRounds c (least v) lo val) where
-    low-ends : StartedEnds (least v) lo (summed_lower c (suc t) val s) (summed_upper c (suc t) val s)
-    low-ends = started_ends (least v) lo (λ i l. (later i l).lower_range) val r
+    low_ends : StartedEnds (least v) lo (summed_lower c (suc t) val s) (summed_upper c (suc t) val s)
+    low_ends = started_ends (least v) lo (λ i l. (later i l).lower_range) val r
 
     -- the ends keep every rule
     pairs : (upper : ℕ) → HighEnds (summed_lower c (suc t) val s) upper → (v s ≡ No → ⊥)
@@ -150,14 +150,14 @@ module _ (c : Chain) (t u : ℕ) (v w : ℕ → Verdict) (lo up : ℕ → ℕ)
     pairs upper high possible =
         record {
           lower_side = λ m n d e.
-              below_trans (billionths (summed_lower c (suc t) val s)) (started_quotient (least v) lo m) _ (started_is (least v) lo m) (low-ends.below m d)
+              below_trans (billionths (summed_lower c (suc t) val s)) (started_quotient (least v) lo m) _ (started_is (least v) lo m) (low_ends.below m d)
               (no_room _ _ (near_quotients (least v) (least w) lo 0 m n
               (from_later c (suc t) u (least v) (least w) lo 0 n (λ i l. room_for_0 _ _ ((later i l).lower_side n e)))));
           lower_near = λ m n d e.
               above_end _ (started_quotient (least v) lo m) (summed_upper c (suc t) val s) (until_slack c (u - suc t)) _ (started_is (least v) lo m)
               (quotients_to (least v) (least w) lo (until_slack c (u - suc t)) m n
               (to_later c (suc t) u (least v) (least w) lo (until_slack c (u - suc t)) n (λ i l. omega (arith, (later i l).lower_near n e))))
-              (low-ends.above m d) (omega (arith, low-ends.near));
+              (low_ends.above m d) (omega (arith, low_ends.near));
           upper_side = λ m n d e.
               above_end _ (started_quotient (most v) up m) upper 0 _ (started_is (most v) up m)
               (quotients_to (most v) (most w) up 0 m n
@@ -188,8 +188,8 @@ module _ (c : Chain) (t u : ℕ) (v w : ℕ → Verdict) (lo up : ℕ → ℕ)
       in_order true a b h = h
       in_order false a b h = omega arith
 
-      near-run : Runs c (started_phase (most v) up) (unit * gap) val
-      near-run =
+      near_run : Runs c (started_phase (most v) up) (unit * gap) val
+      near_run =
           record {
             below = λ i l. rw (r.start i l, decided_same (v i) (d i l))
                 (omega (arith, in_order (most v i) (lo i) (up i) (ordered_ends c (until_of (u - suc t) v w) i (lo i) (up i) l (later i l))));
@@ -197,12 +197,12 @@ module _ (c : Chain) (t u : ℕ) (v w : ℕ → Verdict) (lo up : ℕ → ℕ)
             next = λ k i l. r.next k i l ∙ ap (λ (z : Bool). settled false (not z) (moved c (val k) i / top_rate c)) (decided_same (v i) (d i l));
           }
 
-      near-high : HighEnds (summed_lower c (suc t) val s) (near_end c (suc t) gap val s)
+      near_high : HighEnds (summed_lower c (suc t) val s) (near_end c (suc t) gap val s)
       unfolding load depth
-      near-high =
+      near_high =
           let p : PhaseEnds c (started_phase (most v) up) (top_rate c * suc t) rate_hundredths (unit * gap) s (summed_lower c (suc t) val s) (near_end c (suc t) gap val s)
           = phase_ends (top_rate c * suc t) rate_hundredths moving (omega arith) c (started_phase (most v) up) rate (omega arith)
-          (λ i l. started_small (most v i) (up i) (later i l).upper_range) near-run s in_range small in
+          (λ i l. started_small (most v i) (up i) (later i l).upper_range) near_run s in_range small in
           record {
             under = summed_lower c (suc t) val s;
             below = p.below;
@@ -213,12 +213,12 @@ module _ (c : Chain) (t u : ℕ) (v w : ℕ → Verdict) (lo up : ℕ → ℕ)
           }
 
       pub near_pairs : (v s ≡ No → ⊥) → EndsAt c (between_of (suc t) u v w) s (summed_lower c (suc t) val s) (near_end c (suc t) gap val s)
-      near_pairs = pairs (near_end c (suc t) gap val s) near-high
+      near_pairs = pairs (near_end c (suc t) gap val s) near_high
 
     -- any two starts: a run of its own
     module _ (high : ℕ → ℕ → ℕ) (r' : StartedRounds c (most v) up high) where
-      high-ends : StartedEnds (most v) up (summed_lower c (suc t) high s) (summed_upper c (suc t) high s)
-      high-ends = started_ends (most v) up (λ i l. (later i l).upper_range) high r'
+      high_ends : StartedEnds (most v) up (summed_lower c (suc t) high s) (summed_upper c (suc t) high s)
+      high_ends = started_ends (most v) up (λ i l. (later i l).upper_range) high r'
 
       -- with nothing undecided the two starts differ by what the later phase's ends do
       starts_apart : AllDecided c v → AllDecided c w → StartsNear c (started_phase (most v) up) (started_phase (least v) lo) (until_slack c (u - suc t))
@@ -243,21 +243,21 @@ module _ (c : Chain) (t u : ℕ) (v w : ℕ → Verdict) (lo up : ℕ → ℕ)
           let h : Below (started_quotient (most v) up m) (plus (started_quotient (least v) lo m) (billionths (until_slack c (u - suc t))))
           = quotients_near c rate (starts_apart d e) (top_rate c * suc t) rate_hundredths (omega arith) s m in_range in
           let i : Below (started_quotient (most v) up m) (billionths (summed_upper c (suc t) val s + until_slack c (u - suc t)))
-          = above_end _ _ (summed_upper c (suc t) val s) (until_slack c (u - suc t)) _ (started_is (least v) lo m) h (low-ends.above m (omega arith))
+          = above_end _ _ (summed_upper c (suc t) val s) (until_slack c (u - suc t)) _ (started_is (least v) lo m) h (low_ends.above m (omega arith))
           (omega arith) in
           let j : Below (billionths (summed_lower c (suc t) high s)) (billionths (summed_upper c (suc t) val s + until_slack c (u - suc t)))
           = below_trans (billionths (summed_lower c (suc t) high s)) (started_quotient (most v) up m) _ (started_is (most v) up m)
-          (high-ends.below m (omega arith)) i in
-          omega (arith, j, low-ends.near, high-ends.near)
+          (high_ends.below m (omega arith)) i in
+          omega (arith, j, low_ends.near, high_ends.near)
 
       pub summed_pairs : (v s ≡ No → ⊥) → EndsAt c (between_of (suc t) u v w) s (summed_lower c (suc t) val s) (summed_upper c (suc t) high s)
       summed_pairs =
           pairs (summed_upper c (suc t) high s)
           (record {
             under = summed_lower c (suc t) high s;
-            below = high-ends.below;
-            above = high-ends.above;
-            near = omega (arith, high-ends.near);
+            below = high_ends.below;
+            above = high_ends.above;
+            near = omega (arith, high_ends.near);
             narrow = narrow;
             range = omega arith;
           })

@@ -61,15 +61,15 @@ module _ (c : Chain) (t s : ℕ) (v w : ℕ → Verdict) (in_range : s < c.state
   module _ (val high : ℕ → ℕ → ℕ) (small : depth c t ≤ most_depth) (r : 0 < top_rate c * t → Rounds c (until_phase (least v) (least w)) val)
       (r' : 0 < top_rate c * t → Rounds c (until_phase (most v) (most w)) high) where
     -- with load 0 the exact values, else the sums
-    still-ends : (z : Bool) → eqb (top_rate c * t) 0 ≡ z → (w s ≡ Yes → ⊥) → (v s ≡ No → w s ≡ No → ⊥)
+    still_ends : (z : Bool) → eqb (top_rate c * t) 0 ≡ z → (w s ≡ Yes → ⊥) → (v s ≡ No → w s ≡ No → ⊥)
         → EndsAt c (until_of t v w) s (cond z (billion * bit (as_no (w s))) (summed_lower c t val s))
         (cond z (billion * bit (as_yes (w s))) (summed_upper c t high s))
-    still-ends true e i j = ends_still (eqb-true _ _ e)
-    still-ends false e i j =
+    still_ends true e i j = ends_still (eqb-true _ _ e)
+    still_ends false e i j =
         let n : top_rate c * t ≡ 0 → ⊥ = eqb-false _ _ e in
         let p : 0 < top_rate c * t = omega arith in
         summed_ends c t s in_range small p v w val high (r p) (r' p) i j
 
     -- the ends keep every rule
     pub until_ends : EndsAt c (until_of t v w) s (until_lower c t v w val s) (until_upper c t v w high s)
-    until_ends = point_ends (v s) (w s) _ _ refl refl (still-ends (eqb (top_rate c * t) 0) refl)
+    until_ends = point_ends (v s) (w s) _ _ refl refl (still_ends (eqb (top_rate c * t) 0) refl)

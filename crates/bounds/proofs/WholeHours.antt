@@ -34,38 +34,38 @@ module _ (h : ℕ) (some : 0 < h) where
       (ap (λ (z : ℕ). z / (y j * h)) (omega arith) ∙ mul-div-mul_right {m = h} (ladder p x y j * x j) (y j) some)
 
   module _ (a b m : ℕ) where
-    low-times : (k : ℕ) → low (a * h) (b * h) m k ≡ low a b m k
+    low_times : (k : ℕ) → low (a * h) (b * h) m k ≡ low a b m k
     unfolding low
-    low-times k =
+    low_times k =
         rw (
           ladder_times peak (λ i. (m - i) * b) (λ i. a) (λ i. (m - i) * (b * h)) (λ i. a * h) (λ i. omega arith) (λ i. refl) (m - k),
           ladder_times peak (λ i. a) (λ i. suc (m + i) * b) (λ i. a * h) (λ i. suc (m + i) * (b * h)) (λ i. refl) (λ i. omega arith) (k - m),
         )
 
     module _ (d : ℕ) where
-      total-times : total (a * h) (b * h) m d ≡ total a b m d
+      total_times : total (a * h) (b * h) m d ≡ total a b m d
       unfolding total
-      total-times =
-          rw (low-times d, sum_cong (λ k. low (a * h) (b * h) m k + apart m k) (λ k. low a b m k + apart m k) (suc d) (λ k l. rw (low-times k)))
+      total_times =
+          rw (low_times d, sum_cong (λ k. low (a * h) (b * h) m k + apart m k) (λ k. low a b m k + apart m k) (suc d) (λ k l. rw (low_times k)))
 
-      last-times : last_step (a * h) (b * h) m d ≡ last_step a b m d
+      last_times : last_step (a * h) (b * h) m d ≡ last_step a b m d
       unfolding last_step
-      last-times =
-          rw total-times (last_same (low (a * h) (b * h) m) (low a b m) _ d (λ k l. low-times k) d 0 (omega arith))
+      last_times =
+          rw total_times (last_same (low (a * h) (b * h) m) (low a b m) _ d (λ k l. low_times k) d 0 (omega arith))
 
-      parts-times : (l : ℕ) (v : ℕ → ℕ) → gathered (a * h) (b * h) m l v ≡ gathered a b m l v
+      parts_times : (l : ℕ) (v : ℕ → ℕ) → gathered (a * h) (b * h) m l v ≡ gathered a b m l v
       unfolding gathered
-      parts-times l v =
-          sum_cong (λ k. part (low (a * h) (b * h) m k) (v k)) (λ k. part (low a b m k) (v k)) (suc l) (λ k i. rw (low-times k))
+      parts_times l v =
+          sum_cong (λ k. part (low (a * h) (b * h) m k) (v k)) (λ k. part (low a b m k) (v k)) (suc l) (λ k i. rw (low_times k))
 
-      lower-times : (v : ℕ → ℕ) → lower_end (a * h) (b * h) m d v ≡ lower_end a b m d v
+      lower_times : (v : ℕ → ℕ) → lower_end (a * h) (b * h) m d v ≡ lower_end a b m d v
       unfolding lower_end
-      lower-times v = rw (last-times, total-times, parts-times (last_step a b m d) v)
+      lower_times v = rw (last_times, total_times, parts_times (last_step a b m d) v)
 
-      left-times : (e : ℕ) (v : ℕ → ℕ) → left_end (a * h) (b * h) m d e v ≡ left_end a b m d e v
+      left_times : (e : ℕ) (v : ℕ → ℕ) → left_end (a * h) (b * h) m d e v ≡ left_end a b m d e v
       unfolding left_end gatherable gathered
-      left-times e v =
-          rw (last-times, total-times, parts-times (last_step a b m d) v, parts-times (last_step a b m d) (λ k. one - (e + k)))
+      left_times e v =
+          rw (last_times, total_times, parts_times (last_step a b m d) v, parts_times (last_step a b m d) (λ k. one - (e + k)))
 
 -- a product that counts hundredths is 0 where the product that counts hours is, and has the same whole part
 nothing_times : (a : ℕ) → eqb (a * hour) 0 ≡ eqb a 0
@@ -94,7 +94,7 @@ module _ (c : Chain) (t : ℕ) (v w : ℕ → Verdict) (s : ℕ) where
         in_hundredths (top_rate c) t,
         nothing_times top,
         whole_part top,
-        lower-times hour (omega arith) top 1000000 (top / 1000000) deep (λ k. rounded c (until_phase (least v) (least w)) k s),
+        lower_times hour (omega arith) top 1000000 (top / 1000000) deep (λ k. rounded c (until_phase (least v) (least w)) k s),
       )
 
   pub whole_hours_upper : upper_found c (t * hour) v w s
@@ -105,5 +105,5 @@ module _ (c : Chain) (t : ℕ) (v w : ℕ → Verdict) (s : ℕ) where
         in_hundredths (top_rate c) t,
         nothing_times top,
         whole_part top,
-        left-times hour (omega arith) top 1000000 (top / 1000000) deep 0 (λ k. rounded c (until_phase (most v) (most w)) k s),
+        left_times hour (omega arith) top 1000000 (top / 1000000) deep 0 (λ k. rounded c (until_phase (most v) (most w)) k s),
       )

@@ -105,38 +105,38 @@ module _ (j : Job) (d : Dimensions) (r : SheetReady j d) where
 
     module _ {t : Tested} {x : Nodes} (tested : t ≡ tested_by (first_of (formula_tests names d.q (read_formula j.formula))))
         (laid : x ≡ (reading_of names (read_formula j.formula)).nodes) where
-      told-formula : text_refusal j ≡ number_in t
-      told-formula =
+      told_formula : text_refusal j ≡ number_in t
+      told_formula =
           left_to_formula j r.bytes r.passed
           ∙ ap (λ (q : ℕ). first_of (formula_tests (names_of j.labels) q (read_formula j.formula))) (sym (ap (λ (y : Dimensions). y.q) r.is))
           ∙ ap (λ (ns : List Text). first_of (formula_tests ns d.q (read_formula j.formula))) (sym behind)
           ∙ tested_number tested
 
       pub formula_turned : (k : ℕ) → t ≡ Refused k → (before : Buffers (List ℕ)) {c : Checked} → c ≡ turned_back k → Ended j before c before
-      formula_turned k h before e = turned_by_texts j before k (told-formula ∙ ap number_in h) e
+      formula_turned k h before e = turned_by_texts j before k (told_formula ∙ ap number_in h) e
 
       module _ (h : t ≡ Passed) where
         passes : text_refusal j ≡ none
-        passes = told-formula ∙ ap number_in h
+        passes = told_formula ∙ ap number_in h
 
         good : FormulaPassed (names_of j.labels) (top_rate (job_chain j)) (read_formula j.formula)
         good = formula_passed _ _ _ (sym (left_to_formula j r.bytes r.passed) ∙ passes)
 
-        nodes-are : x ≡ stored (names_of j.labels) (job_formula j)
-        nodes-are =
+        nodes_are : x ≡ stored (names_of j.labels) (job_formula j)
+        nodes_are =
             laid
             ∙ ap (λ (ns : List Text). (reading_of ns (read_formula j.formula)).nodes) behind
             ∙ ap (λ (o : Option Formula). (reading_of (names_of j.labels) o).nodes) good.spelled
             ∙ ap (λ (y : Reading). y.nodes) (reading_few (names_of j.labels) (job_formula j) good.fitting.few_nodes good.fitting.few_levels)
 
-        formula-is : formula_in j.labels x ≡ job_formula j
-        formula-is =
-            ap (formula_in j.labels) nodes-are
+        formula_is : formula_in j.labels x ≡ job_formula j
+        formula_is =
+            ap (formula_in j.labels) nodes_are
             ∙ formula_stored (names_of j.labels) (job_formula j) good.fitting.known_labels good.fitting.few_levels
 
         count_is : x.count ≡ nodes (job_formula j)
         unfolding stored
-        count_is = ap (λ (y : Nodes). y.count) nodes-are
+        count_is = ap (λ (y : Nodes). y.count) nodes_are
 
         pub may_measure : (d.states ≤ most_states) × (d.moves ≤ most_moves) × (x.count ≤ most_nodes)
         may_measure = (
@@ -147,7 +147,7 @@ module _ (j : Job) (d : Dimensions) (r : SheetReady j d) where
 
         fits : (k : ℕ) → k < x.count → NodeFits (names_of j.labels) (top_rate (job_chain j)) k (kind_at x.nodes k)
         fits =
-            rw nodes-are
+            rw nodes_are
             (nodes_fit (names_of j.labels) (top_rate (job_chain j)) (stored (names_of j.labels) (job_formula j))
             (ordered_stored (names_of j.labels) (job_formula j) good.fitting.known_labels)
             (labels_tested (names_of j.labels) (job_formula j) ∙ good.fitting.known_labels)
@@ -156,12 +156,12 @@ module _ (j : Job) (d : Dimensions) (r : SheetReady j d) where
             (load_tested (names_of j.labels) (job_formula j) (top_rate (job_chain j)) ∙ good.fitting.loads))
 
         module _ (before : Buffers (List ℕ)) {b : Bool} (s : b ≡ is_short (lengths before) (needed d.states d.moves x.count)) where
-          short-is : b ≡ short_buffer j (lengths before)
+          short_is : b ≡ short_buffer j (lengths before)
           unfolding short_buffer
-          short-is = s ∙ rw (r.is, count_is)
+          short_is = s ∙ rw (r.is, count_is)
 
           pub short_turned : b ≡ true → {c : Checked} → c ≡ turned_back 15 → Ended j before c before
-          short_turned g e = rw e (turned j before 15 (refused_by_lengths j (lengths before) passes (sym short-is ∙ g)))
+          short_turned g e = rw e (turned j before 15 (refused_by_lengths j (lengths before) passes (sym short_is ∙ g)))
 
           module _ (g : b ≡ false) where
             pub report_asked : ReportAsked j.moves j.labels d x before
@@ -171,9 +171,9 @@ module _ (j : Job) (d : Dimensions) (r : SheetReady j d) where
                     passed = sheet_is_good;
                     is = r.is;
                     fits = fits;
-                    few_levels = rw formula-is good.fitting.few_levels;
+                    few_levels = rw formula_is good.fitting.few_levels;
                     few_nodes = may_measure.2;
-                    counted = rw formula-is count_is;
+                    counted = rw formula_is count_is;
                   };
                   room = has_room (lengths before) d.states d.moves x.count (sym s ∙ g);
                 }
@@ -182,7 +182,7 @@ module _ (j : Job) (d : Dimensions) (r : SheetReady j d) where
                 → {c : Checked} → c ≡ accepted_over d.states depth → Ended j before c after
             unfolding FinishedBy chain_of left_by
             job_reported {after = after} {depth = depth} f is =
-                let e = accepted_by_all j (lengths before) passes (sym short-is ∙ g) in
+                let e = accepted_by_all j (lengths before) passes (sym short_is ∙ g) in
                 let l : ReportLeft j.moves j.labels x before after depth = f in
                 rw is (
                   by j before (accepted_with depth) after e
@@ -190,9 +190,9 @@ module _ (j : Job) (d : Dimensions) (r : SheetReady j d) where
                         lower = report_lower (job_chain j) (job_formula j);
                         upper = report_upper (job_chain j) (job_formula j);
                         verdict = found (job_chain j) (job_formula j);
-                        answer = ap accepted_with (rw formula-is at l.deep);
+                        answer = ap accepted_with (rw formula_is at l.deep);
                         reported = report_found (job_chain j) (job_formula j) good.fitting.loads;
-                        buffers = rw (← count_is) (report_filled (rw formula-is at l.each));
+                        buffers = rw (← count_is) (report_filled (rw formula_is at l.each));
                       }),
-                  (left j before e (rw (← count_is) (report_filled (rw formula-is at l.each))), ap (λ (y : Dimensions). y.states) r.is ∙ ap states_in (sym e)),
+                  (left j before e (rw (← count_is) (report_filled (rw formula_is at l.each))), ap (λ (y : Dimensions). y.states) r.is ∙ ap states_in (sym e)),
                 )

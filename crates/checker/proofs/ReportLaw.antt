@@ -160,8 +160,8 @@ module _ {m₀ labels : Text} {d : Dimensions} {x : Nodes} {words₀ vectors₀ 
       decides : Decides (chain_in m₀ labels) (formula_in labels x) d.states vectors vectors' (take b marks) part depth
       decides = e decide_asked
 
-      one-row : d.states ≤ b
-      one-row = omega (arith, mul-le-mul_right d.states some)
+      one_row : d.states ≤ b
+      one_row = omega (arith, mul-le-mul_right d.states some)
 
       pub all_decided_lem : Decided m₀ labels x words₀ words vectors₀ vectors' marks₀ (part ++ drop b marks) depth
       all_decided_lem =
@@ -172,7 +172,7 @@ module _ {m₀ labels : Text} {d : Dimensions} {x : Nodes} {words₀ vectors₀ 
                 ap (λ (n : ℕ). at vectors' (n + i)) (sym (states_are r.ready)) ∙ decides.ends.uppers i (omega (arith, states_are r.ready));
             range = rw (← states_are r.ready) decides.range;
             bytes = λ i h.
-                front_at marks part b marks_long decides.row.same i (omega (arith, states_are r.ready, one-row))
+                front_at marks part b marks_long decides.row.same i (omega (arith, states_are r.ready, one_row))
                 ∙ table_at decides.row i (omega (arith, states_are r.ready));
             words_same = s.words_same;
             words_beyond = λ i h. s.words_beyond i (omega arith);
@@ -219,12 +219,12 @@ module _ {m₀ labels : Text} {d : Dimensions} {x : Nodes} {before : Buffers (Li
     module _ {lower upper words' vectors' marks' : List ℕ} (lo : lower ≡ written (column (λ s. at vectors s) d.states) before.lower)
         (up : upper ≡ written (column (λ s. at vectors (d.states + s)) d.states) before.upper)
         (z : Cleared d.states d.moves x.count words words' vectors vectors' marks marks') where
-      long-column : (f : ℕ → ℕ) (l : List ℕ) {new : List ℕ} → new ≡ written (column f d.states) l → d.states ≤ length l → d.states ≤ length new
-      long-column f l e h =
+      long_column : (f : ℕ → ℕ) (l : List ℕ) {new : List ℕ} → new ≡ written (column f d.states) l → d.states ≤ length l → d.states ≤ length new
+      long_column f l e h =
           omega (arith, ap length e, written_length (column f d.states) l (omega (arith, column_length f d.states)))
 
-      long-vectors : length vectors' ≡ length vectors
-      long-vectors =
+      long_vectors : length vectors' ≡ length vectors
+      long_vectors =
           ap length z.in_vectors
           ∙ written_length (replicate (vector_length d.states) 0) vectors
           (omega (arith, length-replicate {A = ℕ} (vector_length d.states) 0, r.room.vectors, k.vectors_same))
@@ -233,20 +233,20 @@ module _ {m₀ labels : Text} {d : Dimensions} {x : Nodes} {before : Buffers (Li
       sort_asked =
           record {
             few = few_states r.ready;
-            lowers = long-column _ before.lower lo r.room.lower;
-            uppers = long-column _ before.upper up r.room.upper;
+            lowers = long_column _ before.lower lo r.room.lower;
+            uppers = long_column _ before.upper up r.room.upper;
             room = r.room.order;
-            lent = omega (arith, long-vectors, k.vectors_same, r.room.vectors);
+            lent = omega (arith, long_vectors, k.vectors_same, r.room.vectors);
             zeros = λ i b. ap (λ (l : List ℕ). at l i) z.in_vectors ∙ zeros_at (vector_length d.states) vectors i (omega arith);
           }
 
       -- the ends in the result buffers are those that were decided, and so is their order
-      lower-at : (s : ℕ) → s < d.states → at lower s ≡ report_lower (chain_in m₀ labels) (formula_in labels x) s
-      lower-at s b =
+      lower_at : (s : ℕ) → s < d.states → at lower s ≡ report_lower (chain_in m₀ labels) (formula_in labels x) s
+      lower_at s b =
           ap (λ (l : List ℕ). at l s) lo ∙ written_at_lem (λ i. at vectors i) d.states before.lower s b ∙ k.lowers s (omega (arith, states_are r.ready))
 
-      upper-at : (s : ℕ) → s < d.states → at upper s ≡ report_upper (chain_in m₀ labels) (formula_in labels x) s
-      upper-at s b =
+      upper_at : (s : ℕ) → s < d.states → at upper s ≡ report_upper (chain_in m₀ labels) (formula_in labels x) s
+      upper_at s b =
           ap (λ (l : List ℕ). at l s) up
           ∙ written_at_lem (λ i. at vectors (d.states + i)) d.states before.upper s b
           ∙ ap (λ (n : ℕ). at vectors (n + s)) (states_are r.ready)
@@ -262,7 +262,7 @@ module _ {m₀ labels : Text} {d : Dimensions} {x : Nodes} {before : Buffers (Li
               lowers = column_as _ _ (states_of labels) before.lower k.lowers (rw (states_are r.ready) at lo);
               uppers = column_as _ _ (states_of labels) before.upper k.uppers (rw (states_are r.ready) at up);
               bytes = column_as _ _ (states_of labels) before.verdicts k.bytes (rw (states_are r.ready) at by);
-              order = rw (states_are r.ready) at (o ∙ ap (λ (l : List ℕ). written l before.order) (order_same _ _ _ _ d.states lower-at upper-at));
+              order = rw (states_are r.ready) at (o ∙ ap (λ (l : List ℕ). written l before.order) (order_same _ _ _ _ d.states lower_at upper_at));
               moves = cleared_beyond _ words before.moves k.words_same k.words_beyond (rw (moves_are r.ready) at z.in_words);
               vectors = cleared_beyond _ vectors before.vectors k.vectors_same k.vectors_beyond (rw (states_are r.ready) at (e ∙ z.in_vectors));
               marks = cleared_beyond _ marks before.marks k.marks_same k.marks_beyond (rw (states_are r.ready) at z.in_marks);

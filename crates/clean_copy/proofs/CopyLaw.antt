@@ -43,15 +43,15 @@ module _ (moves labels : Text) {r : TestedSheet} (e : r ≡ tested_sheet moves l
     passed : SheetPassed moves labels
     passed = sheet_passed moves labels passes
 
-    sheet-is : r.sheet ≡ dimensions_of moves labels
+    sheet_is : r.sheet ≡ dimensions_of moves labels
     unfolding tested_sheet
-    sheet-is = ap (λ (x : TestedSheet). x.sheet) e ∙ ap (sheet_by (dimensions_of moves labels)) passes
+    sheet_is = ap (λ (x : TestedSheet). x.sheet) e ∙ ap (sheet_by (dimensions_of moves labels)) passes
 
     states_are : r.sheet.states ≡ states_of labels
-    states_are = ap (λ (d : Dimensions). d.states) sheet-is
+    states_are = ap (λ (d : Dimensions). d.states) sheet_is
 
     moves_are : r.sheet.moves ≡ length (moves_of moves)
-    moves_are = ap (λ (d : Dimensions). d.moves) sheet-is
+    moves_are = ap (λ (d : Dimensions). d.moves) sheet_is
 
     pub few_moves : r.sheet.moves ≤ 4096
     few_moves = omega (arith, moves_are, passed.sound.few_moves)

@@ -1,4 +1,4 @@
--- What the laws speak of beside the definitions of the papers.
+-- Definitions beside the papers' own, which contracts and the laws in proofs/Laws share.
 pub mod Decided
 pub mod Lending
 pub mod Order

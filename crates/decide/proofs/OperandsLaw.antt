@@ -139,16 +139,16 @@ module _ {mv ix l marks : List ℕ} {nodes : List Node} {node limit n q : ℕ} (
 
       -- when both are decided
       module _ {l₂ ys : List ℕ} {r₂ : ℕ} (w : Leaves mv ix l₁ l₂ (rest m₁ n) ys nodes y limit n q r₂) where
-        second-filled : Filled (λ s. verdict_byte (found a.c (under a y) s)) n n m₁ (back m₁ n ys)
-        second-filled = part_filled m₁ n (omega (arith, two_rows)) (w may_second).row
+        second_filled : Filled (λ s. verdict_byte (found a.c (under a y) s)) n n m₁ (back m₁ n ys)
+        second_filled = part_filled m₁ n (omega (arith, two_rows)) (w may_second).row
 
         pub two_left : OperandsLeft a l₂ (back m₁ n ys)
         two_left =
             let v = u may_first in
             let kept = ends_over v.ends (w may_second).ends in
             left_by_lem (Two x y) e (
-              (λ s h. ap verdict_at (first_row v.row second-filled s h) ∙ byte_read (found a.c (under a x) s)),
-              (λ s h. ap verdict_at (second_row v.row second-filled s h) ∙ byte_read (found a.c (under a y) s)),
+              (λ s h. ap verdict_at (first_row v.row second_filled s h) ∙ byte_read (found a.c (under a x) s)),
+              (λ s h. ap verdict_at (second_row v.row second_filled s h) ∙ byte_read (found a.c (under a y) s)),
             )
-            (λ k h. second-filled.after k (omega arith) ∙ table_rest v.row k (omega arith) ∙ a.clear k (omega arith))
-            (second-filled.same ∙ v.row.same) kept.same kept.after
+            (λ k h. second_filled.after k (omega arith) ∙ table_rest v.row k (omega arith) ∙ a.clear k (omega arith))
+            (second_filled.same ∙ v.row.same) kept.same kept.after

@@ -84,8 +84,8 @@ module _ {mv l l₁ marks m₁ : List ℕ} {n q t u p e : ℕ} (a : TwoPhasesAsk
         started_as a.c (λ i. read_as false (verdicts m₁ i)) (least v) (at l₁) _ (λ i m. ap (read_as false) (first_is i (here i m)))
         (started_rounds a.shows a.prepared.rates.top (λ i. read_as false (verdicts m₁ i)) (at l₁))
 
-    high-run : StartedRounds a.c (most v) (λ i. at l₁ (n + i)) (started_value mv q (λ i. read_as true (verdicts m₁ i)) (λ i. at l₁ (n + i)))
-    high-run =
+    high_run : StartedRounds a.c (most v) (λ i. at l₁ (n + i)) (started_value mv q (λ i. read_as true (verdicts m₁ i)) (λ i. at l₁ (n + i)))
+    high_run =
         started_as a.c (λ i. read_as true (verdicts m₁ i)) (most v) (λ i. at l₁ (n + i)) _ (λ i m. ap (read_as true) (first_is i (here i m)))
         (started_rounds a.shows a.prepared.rates.top (λ i. read_as true (verdicts m₁ i)) (λ i. at l₁ (n + i)))
 
@@ -108,7 +108,7 @@ module _ {mv l l₁ marks m₁ : List ℕ} {n q t u p e : ℕ} (a : TwoPhasesAsk
         (earlier_upper_found a.c t v (at l₁) (lower_found a.c (u - t) v w) (λ i. at l₁ (n + i)) (upper_found a.c (u - t) v w)
         (λ i m. lower_is later x v w h k i (here i m)) (λ i m. upper_is later x v w h k i (here i m))
         (started_value mv q (λ i. read_as false (verdicts m₁ i)) (at l₁))
-        (started_value mv q (λ i. read_as true (verdicts m₁ i)) (λ i. at l₁ (n + i))) s (there s b) (λ o. low_run) (λ o. high-run))
+        (started_value mv q (λ i. read_as true (verdicts m₁ i)) (λ i. at l₁ (n + i))) s (there s b) (λ o. low_run) (λ o. high_run))
 
     pub pair_ends : EndsStored (lower_between a.c t u v w) (upper_between a.c t u v w) n l l₂
     pair_ends = ends_over x.ends (record { same = y.ends.same; lowers = low_is; uppers = high_is; after = y.ends.after })

@@ -92,8 +92,8 @@ module _ (moves labels : Text) (before : List ℕ) (a : CopyAnswer) (after : Lis
 
   -- a copy is made of texts that passed alone, in a buffer that has room for it
   module _ (l : ℕ) (made : a ≡ copied l) where
-    none-refused : copy_refusal moves labels (length before) ≡ none
-    none-refused = go (copy_refusal moves labels (length before)) refl
+    none_refused : copy_refusal moves labels (length before) ≡ none
+    none_refused = go (copy_refusal moves labels (length before)) refl
       where
         go : (o : Option ℕ) → copy_refusal moves labels (length before) ≡ o → o ≡ none
         go none e = refl
@@ -101,7 +101,7 @@ module _ (moves labels : Text) (before : List ℕ) (a : CopyAnswer) (after : Lis
 
     tested : NoneHolds (sheet_tests moves labels ++ (test 17 (short_copy moves labels (length before)) ∷ []))
     unfolding copy_refusal
-    tested = first_none _ none-refused
+    tested = first_none _ none_refused
 
     pub made_of_texts_that_passed : first_of (sheet_tests moves labels) ≡ none
     made_of_texts_that_passed = none_left (sheet_tests moves labels) _ tested

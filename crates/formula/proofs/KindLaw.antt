@@ -114,15 +114,15 @@ module _ (s : Text) (i : ℕ) (b : Bound) (is : BoundRead (tokens s) b) where
   -- and r the path formula behind them, at the start of the rest t
   module _ (c : Comparison) (p : ℕ) (e : b ≡ bound.Is c p) (t : Text) (behind : t ≡ after_part space (after_part space s)) (r : Route)
       (then : RouteRead i (tokens t) r) where
-    by-route : route_kind c p r ≡ chance_kind i (tokens s)
+    by_route : route_kind c p r ≡ chance_kind i (tokens s)
     unfolding state
-    by-route = rw (is (path hollow), e, two_tail s t behind) (sym (then c p))
+    by_route = rw (is (path hollow), e, two_tail s t behind) (sym (then c p))
 
     pub chance_none : r ≡ route.Missing → kind.Always ≡ chance_kind i (tokens s)
-    chance_none k = sym (ap (route_kind c p) k) ∙ by-route
+    chance_none k = sym (ap (route_kind c p) k) ∙ by_route
 
     pub chance_some : (w : Path) → r ≡ route.Is w → kind.Chance c p w ≡ chance_kind i (tokens s)
-    chance_some w k = sym (ap (route_kind c p) k) ∙ by-route
+    chance_some w k = sym (ap (route_kind c p) k) ∙ by_route
 
 pub ruleset chance_laws = (chance_unbound, chance_none, chance_some)
 

@@ -109,9 +109,9 @@ module _ (names : List Text) where
       (top : (a : Formula) (j : ℕ) → top_kind names j w ts ≡ kind_held names j (nodes a) (make a))
       (own : (a : Formula) (j : ℕ) → behind_own (kind_held names j (nodes a) (make a)) ts ≡ us)
       (one_waits : (a : Formula) (j : ℕ) (p : List ℕ) → awaiting (kind_held names j (nodes a) (make a)) p ≡ (j - 1) ∷ p) where
-    single-lays : (f : Formula) (rest : List Text) → single read make us ≡ found f rest → Lays (w ∷ ts) f rest
+    single_lays : (f : Formula) (rest : List Text) → single read make us ≡ found f rest → Lays (w ∷ ts) f rest
     unfolding single and_then
-    single-lays f rest p = go (read us) refl p
+    single_lays f rest p = go (read us) refl p
       where
         go : (fd : Found) → read us ≡ fd → and_then fd (λ a r. found (make a) r) ≡ found f rest → Lays (w ∷ ts) f rest
         go nothing q p = let z : ◌≡◌ {A = ℕ} 0 1 = cc in absurd (omega arith)
@@ -129,33 +129,33 @@ module _ (names : List Text) where
       (own : (a c : Formula) (j : ℕ) → behind_own (kind_held names j (nodes c) (make a c)) ts ≡ us)
       (both-wait : (a c : Formula) (j : ℕ) (p : List ℕ)
       → awaiting (kind_held names j (nodes c) (make a c)) p ≡ (j - suc (nodes c)) ∷ (j - 1) ∷ p) where
-    second-lays : (a : Formula) (more : List Text) → read us ≡ found a more → length more ≤ m → (fd : Found) → read more ≡ fd
+    second_lays : (a : Formula) (more : List Text) → read us ≡ found a more → length more ≤ m → (fd : Found) → read more ≡ fd
         → (f : Formula) (rest : List Text) → and_then fd (λ c r. found (make a c) r) ≡ found f rest → Lays (w ∷ ts) f rest
     unfolding and_then
-    second-lays a more q k nothing r f rest p = let z : ◌≡◌ {A = ℕ} 0 1 = cc in absurd (omega arith)
-    second-lays a more q k (found c end) r f rest p =
+    second_lays a more q k nothing r f rest p = let z : ◌≡◌ {A = ℕ} 0 1 = cc in absurd (omega arith)
+    second_lays a more q k (found c end) r f rest p =
         let x : make a c ≡ f = cc in
         let y : end ≡ rest = cc in
         let n : nodes_second us ≡ nodes c = ap nodes_behind q ∙ ap nodes_found r in
         rw (← x, ← y)
         (over_two_lem m ih w ts us h (make a c) a c more end (size a c) (row a c) (λ j. top a c j n) (own a c) (both-wait a c) q k r)
 
-    pair-lays : (f : Formula) (rest : List Text) → pair read make us ≡ found f rest → Lays (w ∷ ts) f rest
+    pair_lays : (f : Formula) (rest : List Text) → pair read make us ≡ found f rest → Lays (w ∷ ts) f rest
     unfolding pair and_then
-    pair-lays f rest p = go (read us) refl (read_leaves us) p
+    pair_lays f rest p = go (read us) refl (read_leaves us) p
       where
         go : (fd : Found) → read us ≡ fd → Leaves us fd → and_then fd (λ a more. and_then (read more) λ c r. found (make a c) r) ≡ found f rest
             → Lays (w ∷ ts) f rest
         go nothing q l p = let z : ◌≡◌ {A = ℕ} 0 1 = cc in absurd (omega arith)
-        go (found a more) q (left l) p = second-lays a more q (omega (arith, last_length l)) (read more) refl f rest p
+        go (found a more) q (left l) p = second_lays a more q (omega (arith, last_length l)) (read more) refl f rest p
 
   -- a node of each kind
   module _ (m : ℕ) (ih : Upto m) (w : Text) (ts : List Text) (h : length ts ≤ m) (f : Formula) (rest : List Text) where
-    leaf-lays : (g : Formula) → nodes g ≡ 1 → ((b : ℕ) → listed names g b ≡ node (top_kind names b w ts) ∷ [])
+    leaf_lays : (g : Formula) → nodes g ≡ 1 → ((b : ℕ) → listed names g b ≡ node (top_kind names b w ts) ∷ [])
         → ((b : ℕ) → behind_own (top_kind names b w ts) ts ≡ ts) → ((b : ℕ) (p : List ℕ) → awaiting (top_kind names b w ts) p ≡ p)
         → found g ts ≡ found f rest → Lays (w ∷ ts) f rest
     unfolding put
-    leaf-lays g size row own none-wait q =
+    leaf_lays g size row own none-wait q =
         let x : g ≡ f = cc in
         let y : ts ≡ rest = cc in
         rw (← x, ← y) λ k b p ns.
@@ -163,35 +163,35 @@ module _ (names : List Text) where
         let t : b + nodes g - 1 ≡ b = omega arith in
         rw (s, t, one_node, own, none-wait, row)
 
-    chance-lays : head_of w ≡ chances → state read w chances ts ≡ found f rest → ChanceAt ts → Lays (w ∷ ts) f rest
+    chance_lays : head_of w ≡ chances → state read w chances ts ≡ found f rest → ChanceAt ts → Lays (w ∷ ts) f rest
     unfolding nodes nodes_in listed listed_in single pair and_then
-    chance-lays e p (broken b) = let q = b read w in let z : ◌≡◌ {A = ℕ} 0 1 = cc in absurd (omega arith)
-    chance-lays e p (bounded c l Missing b) = let q = b read w in let z : ◌≡◌ {A = ℕ} 0 1 = cc in absurd (omega arith)
-    chance-lays e p (bounded c l Next b) =
+    chance_lays e p (broken b) = let q = b read w in let z : ◌≡◌ {A = ℕ} 0 1 = cc in absurd (omega arith)
+    chance_lays e p (bounded c l Missing b) = let q = b read w in let z : ◌≡◌ {A = ℕ} 0 1 = cc in absurd (omega arith)
+    chance_lays e p (bounded c l Next b) =
         let us = tail (behind_two ts) in
         let k : length us ≤ m = omega (arith, one_shorter (behind_two ts), two_shorter ts) in
-        single-lays m ih w ts us k (λ x. chance c l (next_move x)) (λ x. refl) (λ x b. refl) (λ x j. rw (e, b hollow [])) (λ x j. refl)
+        single_lays m ih w ts us k (λ x. chance c l (next_move x)) (λ x. refl) (λ x b. refl) (λ x j. rw (e, b hollow [])) (λ x j. refl)
         (λ x j q. refl) f rest (sym (b read w) ∙ p)
-    chance-lays e p (bounded c l (Until t) b) =
+    chance_lays e p (bounded c l (Until t) b) =
         let us = behind_two (behind_two ts) in
         let k : length us ≤ m = omega (arith, two_shorter (behind_two ts), two_shorter ts) in
-        pair-lays m ih w ts us k (λ x y. chance c l (until t x y)) (λ x y. refl) (λ x y b. refl) (λ x y j n. rw (e, b hollow [], n))
+        pair_lays m ih w ts us k (λ x y. chance c l (until t x y)) (λ x y. refl) (λ x y b. refl) (λ x y j n. rw (e, b hollow [], n))
         (λ x y j. refl) (λ x y j q. refl) f rest (sym (b read w) ∙ p)
-    chance-lays e p (bounded c l (Between t v) b) =
+    chance_lays e p (bounded c l (Between t v) b) =
         let us = tail (behind_two (behind_two ts)) in
         let k : length us ≤ m = omega (arith, one_shorter (behind_two (behind_two ts)), two_shorter (behind_two ts), two_shorter ts) in
-        pair-lays m ih w ts us k (λ x y. chance c l (between t v x y)) (λ x y. refl) (λ x y b. refl) (λ x y j n. rw (e, b hollow [], n))
+        pair_lays m ih w ts us k (λ x y. chance c l (between t v x y)) (λ x y. refl) (λ x y b. refl) (λ x y j n. rw (e, b hollow [], n))
         (λ x y j. refl) (λ x y j q. refl) f rest (sym (b read w) ∙ p)
 
-    head-lays : (hd : Head) → head_of w ≡ hd → state read w hd ts ≡ found f rest → Lays (w ∷ ts) f rest
+    head_lays : (hd : Head) → head_of w ≡ hd → state read w hd ts ≡ found f rest → Lays (w ∷ ts) f rest
     unfolding state nodes listed
-    head-lays truth e p = leaf-lays always refl (λ b. rw e) (λ b. rw e) (λ b q. rw e) p
-    head-lays name e p = leaf-lays (label w) refl (λ b. rw e) (λ b. rw e) (λ b q. rw e) p
-    head-lays bang e p = single-lays m ih w ts ts h negated (λ x. refl) (λ x b. refl) (λ x j. rw e) (λ x j. refl) (λ x j q. refl) f rest p
-    head-lays ampersand e p =
-        pair-lays m ih w ts ts h both (λ x y. refl) (λ x y b. refl) (λ x y j n. rw (e, n)) (λ x y j. refl) (λ x y j q. refl) f rest p
-    head-lays chances e p = chance-lays e p (chance_at ts)
-    head-lays other e p = let z : ◌≡◌ {A = ℕ} 0 1 = cc in absurd (omega arith)
+    head_lays truth e p = leaf_lays always refl (λ b. rw e) (λ b. rw e) (λ b q. rw e) p
+    head_lays name e p = leaf_lays (label w) refl (λ b. rw e) (λ b. rw e) (λ b q. rw e) p
+    head_lays bang e p = single_lays m ih w ts ts h negated (λ x. refl) (λ x b. refl) (λ x j. rw e) (λ x j. refl) (λ x j q. refl) f rest p
+    head_lays ampersand e p =
+        pair_lays m ih w ts ts h both (λ x y. refl) (λ x y b. refl) (λ x y j n. rw (e, n)) (λ x y j. refl) (λ x y j q. refl) f rest p
+    head_lays chances e p = chance_lays e p (chance_at ts)
+    head_lays other e p = let z : ◌≡◌ {A = ℕ} 0 1 = cc in absurd (omega arith)
 
   read_empty : (f : Formula) (rest : List Text) → read [] ≡ found f rest → ⊥
   unfolding read read_state
@@ -202,7 +202,7 @@ module _ (names : List Text) where
   lays zero [] h f rest q = absurd (read_empty f rest q)
   lays zero (w ∷ ts) h f rest q = absurd (omega arith)
   lays (suc m) [] h f rest q = absurd (read_empty f rest q)
-  lays (suc m) (w ∷ ts) h f rest q = head-lays m (lays m) w ts (omega arith) f rest (head_of w) refl (sym (read_next (w ∷ ts)) ∙ q)
+  lays (suc m) (w ∷ ts) h f rest q = head_lays m (lays m) w ts (omega arith) f rest (head_of w) refl (sym (read_next (w ∷ ts)) ∙ q)
 
   -- the row laid from all tokens of a formula is the formula's
   pub laid_stored : (ts : List Text) (f : Formula) → nodes f ≤ most_nodes → read ts ≡ found f [] → laid names (nodes f) ts ≡ stored names f

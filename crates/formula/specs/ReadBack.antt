@@ -59,12 +59,12 @@ module _ (names : List Text) (ns : List Node) where
     read_back (csl.chance r p w) (suc d) b h n l =
         let o = chance_held names ns r p w b h in
         let e : b + (1 + nodes_in w) - 1 ≡ b + nodes_in w = omega arith in
-        rw (e, o.own, held_is, path-back w d b o.below n (omega arith))
+        rw (e, o.own, held_is, path_back w d b o.below n (omega arith))
 
-    path-back : (w : csl.Path) (d b : ℕ) → Stands ns (listed_in names w b) b → labels_pass_in (among names) w ≡ true → levels_in w ≤ d
+    path_back : (w : csl.Path) (d b : ℕ) → Stands ns (listed_in names w b) b → labels_pass_in (among names) w ≡ true → levels_in w ≤ d
         → path_over (mapped (formula_at names d ns) (path_meant (path_held (b + nodes_in w) (last_nodes w) w))) ≡ w
-    path-back (csl.until t a c) d b h n l =
+    path_back (csl.until t a c) d b h n l =
         let e = two_back a c d b (λ k i m j. read_back a d k i m j) (λ k i m j. read_back c d k i m j) h n l in rw (e.0, e.1)
-    path-back (csl.next_move a) d b h n l = rw (read_back a d b h n l)
-    path-back (csl.between t u a c) d b h n l =
+    path_back (csl.next_move a) d b h n l = rw (read_back a d b h n l)
+    path_back (csl.between t u a c) d b h n l =
         let e = two_back a c d b (λ k i m j. read_back a d k i m j) (λ k i m j. read_back c d k i m j) h n l in rw (e.0, e.1)

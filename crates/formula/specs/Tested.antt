@@ -113,9 +113,9 @@ module _ (names : List Text) (test : Test) (ns : List Node) where
     tests_tree (csl.chance r p w) b h =
         let o = chance_held names ns r p w b h in
         let e : b + (1 + nodes_in w) ≡ suc (b + nodes_in w) = omega arith in
-        rw (e, o.own, tests-in w b o.below, path_tested) (and_assoc (upto b) (pass_in w) _ ∙ rw (and_comm (pass_in w)))
+        rw (e, o.own, tests_in w b o.below, path_tested) (and_assoc (upto b) (pass_in w) _ ∙ rw (and_comm (pass_in w)))
 
-    tests-in : (w : csl.Path) (b : ℕ) → Stands ns (listed_in names w b) b → upto (b + nodes_in w) ≡ upto b && pass_in w
-    tests-in (csl.until t a c) b h = two_pass a c b (λ k i. tests_tree a k i) (λ k i. tests_tree c k i) h
-    tests-in (csl.next_move a) b h = tests_tree a b h
-    tests-in (csl.between t u a c) b h = two_pass a c b (λ k i. tests_tree a k i) (λ k i. tests_tree c k i) h
+    tests_in : (w : csl.Path) (b : ℕ) → Stands ns (listed_in names w b) b → upto (b + nodes_in w) ≡ upto b && pass_in w
+    tests_in (csl.until t a c) b h = two_pass a c b (λ k i. tests_tree a k i) (λ k i. tests_tree c k i) h
+    tests_in (csl.next_move a) b h = tests_tree a b h
+    tests_in (csl.between t u a c) b h = two_pass a c b (λ k i. tests_tree a k i) (λ k i. tests_tree c k i) h

@@ -184,16 +184,16 @@ module _ (w first rest : Text) (a : Amount) (cut : first ≡ head_d (parts point
 
     -- a point stands behind it, and then x, of which p says whether it is decimals
     module _ (x : Text) (more : length rest ≡ 0 → ⊥) (at : x ≡ drop 1 rest) {p : Bool} (says : p ≡ is_decimals x) where
-      behind-point : (r : Text) → (length r ≡ 0 → ⊥) → parts_behind point r ≡ parts point (drop 1 r)
+      behind_point : (r : Text) → (length r ≡ 0 → ⊥) → parts_behind point r ≡ parts point (drop 1 r)
       unfolding parts_behind
-      behind-point [] h = absurd (h refl)
-      behind-point (c ∷ r) h = refl
+      behind_point [] h = absurd (h refl)
+      behind_point (c ∷ r) h = refl
 
       pub hours_broken : not p ≡ true → none ≡ hundredths_of w
       unfolding hundredths_of
-      hours_broken h = rw (split, behind-point rest more, ← at, no_decimals first x (told says (not-true p h)))
+      hours_broken h = rw (split, behind_point rest more, ← at, no_decimals first x (told says (not-true p h)))
 
       pub hours_decimal : not p ≡ false → (d : ℕ) → d ≡ decimals_of x → some (v * hour + d) ≡ hundredths_of w
       unfolding hundredths_of
       hours_decimal h d e =
-          rw (split, behind-point rest more, ← at, decimals first x number.passed (told says (not-false p h)), number.is, e)
+          rw (split, behind_point rest more, ← at, decimals first x number.passed (told says (not-false p h)), number.is, e)

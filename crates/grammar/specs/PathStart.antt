@@ -59,15 +59,15 @@ start_then Missing read r p ts = nothing
 pub path_by_start : (read : Reader) (r : Comparison) (p : ℕ) (ts : List Text)
     → path read r p ts ≡ start_then (path_start_of ts) read r p (behind_start (path_start_of ts) ts)
 unfolding path_start_of path_behind
-path_by_start read r p ts = path_then read r p ts ∙ by-head (path_head_of (head_d ts []))
+path_by_start read r p ts = path_then read r p ts ∙ by_head (path_head_of (head_d ts []))
   where
     after : PathStart → Found
     after h = start_then h read r p (behind_start h ts)
 
-    by-head : (h : PathHead) → path_behind read r p h (tail ts) ≡ after (head_start h (tail ts))
-    by-head untils = hours_by (tail ts) _ (λ o. after (hours_start o)) refl (λ t. refl)
-    by-head nexts = refl
-    by-head betweens =
+    by_head : (h : PathHead) → path_behind read r p h (tail ts) ≡ after (head_start h (tail ts))
+    by_head untils = hours_by (tail ts) _ (λ o. after (hours_start o)) refl (λ t. refl)
+    by_head nexts = refl
+    by_head betweens =
         hours_by (tail ts) _ (λ o. after (times_start o (hours_at (tail (tail ts))))) refl
         λ t. hours_by (tail (tail ts)) _ (λ o. after (times_start (some t) o)) refl (λ u. refl)
-    by-head no_path = refl
+    by_head no_path = refl

@@ -154,18 +154,18 @@ module _ {c : Chain} {mv mv' mv₁ old new : List ℕ} (index : List ℕ) {m own
     abbrev j : ℕ
     j = move.move
 
-    from-s : from_of mv j ≡ s
-    from-s = ap word_from (sym (agree j move.here)) ∙ move.from
+    from_s : from_of mv j ≡ s
+    from_s = ap word_from (sym (agree j move.here)) ∙ move.from
 
-    to-t : to_of mv j ≡ t
-    to-t = ap word_to (sym (agree j move.here)) ∙ move.to
+    to_t : to_of mv j ≡ t
+    to_t = ap word_to (sym (agree j move.here)) ∙ move.to
 
     in_row : (row_into mv m t ≤ place_of mv m j) × (place_of mv m j < row_into mv m (suc t)) × (word_to (at index (place_of mv m j)) ≡ s)
     in_row =
         let here : place_of mv m j < row_into mv m (suc (to_of mv j)) = place_in_row (to_of mv) m j move.here in (
-          omega (arith, ap (λ (x : ℕ). row_into mv m x) to-t),
-          omega (arith, here, ap (λ (x : ℕ). row_into mv m (suc x)) to-t),
-          word_of j (place_of mv m j) move.here refl (omega (arith, here, under_most (to_of mv) m (suc (to_of mv j)))) ∙ from-s,
+          omega (arith, ap (λ (x : ℕ). row_into mv m x) to_t),
+          omega (arith, here, ap (λ (x : ℕ). row_into mv m (suc x)) to_t),
+          word_of j (place_of mv m j) move.here refl (omega (arith, here, under_most (to_of mv) m (suc (to_of mv j)))) ∙ from_s,
         )
 
   pub index_shows : IndexShows c index new owns n

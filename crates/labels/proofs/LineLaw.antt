@@ -91,9 +91,9 @@ module _ (t : Text) where
           rw (feed_fields t v u r, r.value, feed_span t v u r)
 
   module _ (v u : ℕ) (e : field_at comma t ≡ Value v u) where
-    row-marks : (k : ℕ) → is_state_line_at (suc k) t ≡ marks_in (suc k) (drop u t)
+    row_marks : (k : ℕ) → is_state_line_at (suc k) t ≡ marks_in (suc k) (drop u t)
     unfolding is_state_line_at state_line fields_pass head_d
-    row-marks k =
+    row_marks k =
         let r = reading comma t v u e in
         rw (comma_ended t v u r, comma_fields t v u r, r.number, eqb-suc-suc (length (fields_at (drop u t))) (suc k))
         (group (is_ended_at (drop u t)) (eqb (length (fields_at (drop u t))) (suc k)) (every is_mark (fields_at (drop u t))))
@@ -105,7 +105,7 @@ module _ (t : Text) where
 
     pub row_rest : (k : ℕ) → marks_behind v u (suc k) t ≡ state_line_at (suc k) t
     unfolding state_line_at head_d
-    row_rest k = rw (row-marks k) (go (marks_in (suc k) (drop u t)) refl)
+    row_rest k = rw (row_marks k) (go (marks_in (suc k) (drop u t)) refl)
       where
         go : (x : Bool) → marks_in (suc k) (drop u t) ≡ x
             → cond x (Value v (u + 2 * suc k)) Bad ≡ cond x (Value (value_of (head_d (fields_at t) [])) (span_of line_feed t + 1)) Bad
@@ -124,7 +124,7 @@ fits_row (suc k) t h = go (field_at comma t) refl
     go Bad e = absurd (true≢false (sym (row_numbers (suc k) t h) ∙ numbers_more k t ∙ rw e))
     go (Value v u) e =
         let r = reading comma t v u e in
-        omega (arith, r.used, comma_span t v u r, marks_bytes k (drop u t) (sym (row-marks t v u e k) ∙ h))
+        omega (arith, r.used, comma_span t v u r, marks_bytes k (drop u t) (sym (row_marks t v u e k) ∙ h))
 
 pub row_fits : (names : ℕ) (t : Text) → StateLineFits names (length t) (state_line_at names t)
 unfolding state_line_at is_state_line_at is_ended_at

@@ -64,9 +64,9 @@ module _ (names : ℕ) (t : Text) where
     unfolding state_lines_at in_turn
     rows_end h = let e : k + 0 ≡ k = omega arith in rw (pass_end (state_line (suc names)) t h, lines_end t h, and-true turn, e)
 
-    rows-bad : 0 < length t → state_line_at names t ≡ Bad → state_lines_at names k turn t ≡ Broken
+    rows_bad : 0 < length t → state_line_at names t ≡ Bad → state_lines_at names k turn t ≡ Broken
     unfolding state_lines_at
-    rows-bad l h = rw (pass_not (state_line (suc names)) t l (untold h))
+    rows_bad l h = rw (pass_not (state_line (suc names)) t l (untold h))
 
     rows_more : (v u : ℕ) → state_line_at names t ≡ Value v u → state_lines_at names k turn t ≡ state_lines_at names (k + 1) (turn && eqb v k) (drop u t)
     unfolding state_lines_at in_turn
@@ -108,7 +108,7 @@ module _ {names : ℕ} {s t : Text} {count : ℕ} {turn : Bool} (v : Counting na
 
   module _ {r : Num} (g : r ≡ state_line_at names t) where
     pub count_broken : 0 < length t → r ≡ Bad → Broken ≡ state_lines_at names 0 true s
-    count_broken l h = sym (rows-bad names t count turn l (sym g ∙ h)) ∙ v.same
+    count_broken l h = sym (rows_bad names t count turn l (sym g ∙ h)) ∙ v.same
 
     pub count_more : {x u : ℕ} → r ≡ Value x u → StateLineFits names (length t) r
         → Counting names s (take (length t - u) (drop u t)) (count + 1) (turn && eqb x count)

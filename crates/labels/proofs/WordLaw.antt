@@ -74,15 +74,15 @@ module _ (s : Text) (count : ℕ) where
             marks = n.rest;
             whole = add (eqb (get_or t 0 0) 49) e (rw (n.first, one_bit (get_or t 0 0)) at v.whole);
             power = grows v.within v.power;
-            below = small-sum (eqb (get_or t 0 0) 49) e;
+            below = small_sum (eqb (get_or t 0 0) 49) e;
           }
         where
           grows : left ≤ count → value ≡ 2 ^ (count - left) → value * 2 ≡ 2 ^ (count - (left - 1))
           grows w p = let q : count - (left - 1) ≡ suc (count - left) = omega arith in rw (q, pow-suc 2 (count - left), p)
 
-          small-sum : (x : Bool) → b ≡ cond x value 0 → sum + b < value * 2
-          small-sum true q = omega (arith, v.below)
-          small-sum false q = omega (arith, v.below)
+          small_sum : (x : Bool) → b ≡ cond x value 0 → sum + b < value * 2
+          small_sum true q = omega (arith, v.below)
+          small_sum false q = omega (arith, v.below)
 
           add : (x : Bool) → b ≡ cond x value 0
               → sum + value * (cond x 1 0 + 2 * marks_word (fields_left (left - 1) (drop 2 t))) ≡ marks_word (fields_left count s)

@@ -58,12 +58,12 @@ module _ (t : Text) where
   bad_first e = line_bad t (numbers_more 1 t ∙ rw e)
 
   module _ (f a : ℕ) (e₁ : field_at comma t ≡ Value f a) where
-    bad-second : field_at comma (drop a t) ≡ num.Bad → move_at t ≡ Bad
-    bad-second e = line_bad t (numbers_more 1 t ∙ rw e₁ (numbers_more 0 (drop a t) ∙ rw e))
+    bad_second : field_at comma (drop a t) ≡ num.Bad → move_at t ≡ Bad
+    bad_second e = line_bad t (numbers_more 1 t ∙ rw e₁ (numbers_more 0 (drop a t) ∙ rw e))
 
     module _ (o b : ℕ) (e₂ : field_at comma (drop a t) ≡ Value o b) where
-      bad-third : field_at line_feed (drop b (drop a t)) ≡ num.Bad → move_at t ≡ Bad
-      bad-third e = line_bad t (numbers_more 1 t ∙ rw e₁ (numbers_more 0 (drop a t) ∙ rw e₂ (numbers_last (drop b (drop a t)) ∙ rw e)))
+      bad_third : field_at line_feed (drop b (drop a t)) ≡ num.Bad → move_at t ≡ Bad
+      bad_third e = line_bad t (numbers_more 1 t ∙ rw e₁ (numbers_more 0 (drop a t) ∙ rw e₂ (numbers_last (drop b (drop a t)) ∙ rw e)))
 
       module _ (r c : ℕ) (e₃ : field_at line_feed (drop b (drop a t)) ≡ Value r c) where
         three : numbers_in 3 t ≡ true
@@ -96,11 +96,11 @@ module _ (t : Text) {r₁ : Num} (g₁ : r₁ ≡ field_at comma t) where
 
   module _ {f a : ℕ} (h₁ : r₁ ≡ Value f a) {r₂ : Num} (g₂ : r₂ ≡ field_at comma (rest t a)) where
     pub second_bad : r₂ ≡ num.Bad → Bad ≡ move_at t
-    second_bad h = sym (bad-second t f a (sym g₁ ∙ h₁) (sym (rw rest_is at g₂) ∙ h))
+    second_bad h = sym (bad_second t f a (sym g₁ ∙ h₁) (sym (rw rest_is at g₂) ∙ h))
 
     module _ {o b : ℕ} (h₂ : r₂ ≡ Value o b) {r₃ : Num} (g₃ : r₃ ≡ field_at line_feed (rest (rest t a) b)) where
       pub third_bad : r₃ ≡ num.Bad → Bad ≡ move_at t
-      third_bad h = sym (bad-third t f a (sym g₁ ∙ h₁) o b (sym (rw rest_is at g₂) ∙ h₂) (sym (rw (rest_is, rest_is) at g₃) ∙ h))
+      third_bad h = sym (bad_third t f a (sym g₁ ∙ h₁) o b (sym (rw rest_is at g₂) ∙ h₂) (sym (rw (rest_is, rest_is) at g₃) ∙ h))
 
       module _ {x c : ℕ} (h₃ : r₃ ≡ Value x c) where
         pub all_read : Move f o x (a + b + c) ≡ move_at t

@@ -82,36 +82,36 @@ module _ {n : ℕ} {ms : List Move} {a : Tally} {totals owns : List ℕ} (t : Ta
     own_is s l = omega (arith, t.own_told few known s l, own_low t.carries s)
 
     -- a total within the limit leaves what goes to others; one that is too high shows
-    within-leaves : (s : ℕ) → s < n → rates_out ms s ≤ most_rate → leaving totals owns s ≡ rates_out (others ms) s
-    within-leaves s l h =
+    within_leaves : (s : ℕ) → s < n → rates_out ms s ≤ most_rate → leaving totals owns s ≡ rates_out (others ms) s
+    within_leaves s l h =
         rw (le-ltb most_rate (at totals s) (omega (arith, total_is s l))) (omega (arith, total_is s l, own_is s l, out_parts ms s))
 
-    within-shows : (s : ℕ) → s < n → leaving totals owns s ≤ most_rate → rates_out ms s ≤ most_rate
-    within-shows s l = go (ltb most_rate (at totals s)) refl
+    within_shows : (s : ℕ) → s < n → leaving totals owns s ≤ most_rate → rates_out ms s ≤ most_rate
+    within_shows s l = go (ltb most_rate (at totals s)) refl
       where
         go : (x : Bool) → ltb most_rate (at totals s) ≡ x → cond x too_high (at totals s - at owns s) ≤ most_rate → rates_out ms s ≤ most_rate
         go true e h = absurd (omega arith)
         go false e h = let q : at totals s ≤ most_rate = ltb-false _ _ e in omega (arith, total_is s l)
 
     top_is : wrong_rate ms ≡ false → top ≡ greatest (rates_out (others ms)) n
-    top_is h = greatest_cong _ _ n λ s l. within-leaves s l (rates_tested ms h s)
+    top_is h = greatest_cong _ _ n λ s l. within_leaves s l (rates_tested ms h s)
 
-    top-low : wrong_rate ms ≡ false → top ≤ most_rate
-    top-low h = rw (top_is h) (greatest_most _ most_rate n λ s l. omega (arith, others_slower ms s, rates_tested ms h s))
+    top_low : wrong_rate ms ≡ false → top ≤ most_rate
+    top_low h = rw (top_is h) (greatest_most _ most_rate n λ s l. omega (arith, others_slower ms s, rates_tested ms h s))
 
-    not-wrong : any_still ms ≡ false → top ≤ most_rate → wrong_rate ms ≡ false
-    not-wrong h low =
+    not_wrong : any_still ms ≡ false → top ≤ most_rate → wrong_rate ms ≡ false
+    not_wrong h low =
         none_wrong n (rates_out ms) ms (within_tested n ms (sym strange_is ∙ known)) h
-        (λ s l. within-shows s l (omega (arith, greatest_le (leaving totals owns) s n l)))
+        (λ s l. within_shows s l (omega (arith, greatest_le (leaving totals owns) s n l)))
 
     pub totals_tell : Telling n ms top
     totals_tell = record { wrong_told = go (wrong_rate ms) (any_still ms) (ltb most_rate top) refl refl refl; top_told = top_is }
       where
         go : (x y z : Bool) → wrong_rate ms ≡ x → any_still ms ≡ y → ltb most_rate top ≡ z → x ≡ (y || z)
-        go false y z d e f = rw (sym e ∙ none_still ms (moving_tested ms d), sym f ∙ le-ltb most_rate top (top-low d))
+        go false y z d e f = rw (sym e ∙ none_still ms (moving_tested ms d), sym f ∙ le-ltb most_rate top (top_low d))
         go true true z d e f = refl
         go true false true d e f = refl
-        go true false false d e f = sym d ∙ not-wrong e (ltb-false _ _ f)
+        go true false false d e f = sym d ∙ not_wrong e (ltb-false _ _ f)
 
 -- by the answers that the code has: the facts where states are strange or too many, where test 9 holds, and where it does not
 module _ (n : ℕ) (head : Bool) (a : Tally) (totals owns : List ℕ) where

@@ -25,8 +25,8 @@ module _ {c : Chain} {mv l : List ℕ} {n : ℕ} (p : Shows c mv (length mv) n) 
 
   -- where the row of the operand holds the verdicts v
   module _ (operand : List ℕ) (v : ℕ → Verdict) (e : (t : ℕ) → t < n → verdicts operand t ≡ v t) where
-    entering-is : (b : Bool) → entering_in b mv l operand n s ≡ entering_rate c (λ t. read_as b (v t)) s
-    entering-is b =
+    entering_is : (b : Bool) → entering_in b mv l operand n s ≡ entering_rate c (λ t. read_as b (v t)) s
+    entering_is b =
         let same : (t : ℕ) → t < n → held_in b operand t ≡ bit (read_as b (v t)) = λ t m. ap (λ (x : Verdict). bit (read_as b x)) (e t m) in
         let f : flow mv (length mv) (held_in b operand) s ≡ sum_to (λ t. away c s t * bit (read_as b (v t))) c.states
         = flow_cong mv (held_in b operand) (λ t. bit (read_as b (v t))) s n (length mv) p.targets same ∙ sym (flow_shown p (λ t. bit (read_as b (v t))) s h) in
@@ -34,8 +34,8 @@ module _ {c : Chain} {mv l : List ℕ} {n : ℕ} (p : Shows c mv (length mv) n) 
 
     pub lower_is : lower_at mv l operand n s ≡ next_lower c v s
     unfolding next_fraction
-    lower_is = rw (entering-is false, exit_is) refl
+    lower_is = rw (entering_is false, exit_is) refl
 
     pub upper_is : upper_at mv l operand n s ≡ next_upper c v s
     unfolding next_fraction
-    upper_is = rw (entering-is true, exit_is) refl
+    upper_is = rw (entering_is true, exit_is) refl

@@ -50,11 +50,11 @@ module _ {l : List ℕ} {n depth most rest k : ℕ} (v : Inv l n depth most rest
   finish h = answer (last_none (weight_at l n) most k rest h)
 
   module _ (h : 0 < k) where
-    weight-most : weight_at l n k ≤ peak
-    weight-most = v.asked.weights k v.within
+    weight_most : weight_at l n k ≤ peak
+    weight_most = v.asked.weights k v.within
 
     pub sum_fits : Fits w64 (rest + weight_at l n k)
-    sum_fits = omega (arith, v.light, weight-most, v.asked.limit, v.within)
+    sum_fits = omega (arith, v.light, weight_most, v.asked.limit, v.within)
 
     pub found : most < rest + weight_at l n k → k ≡ last_from (weight_at l n) (total_in l n / negligible) depth 0
     found e = answer (last_here (weight_at l n) most k rest h e)
@@ -65,7 +65,7 @@ module _ {l : List ℕ} {n depth most rest k : ℕ} (v : Inv l n depth most rest
           asked = v.asked;
           within = omega (arith, v.within);
           most_is = v.most_is;
-          light = let y : depth - (k - 1) ≡ suc (depth - k) = omega (arith, v.within) in rw y (omega (arith, v.light, weight-most));
+          light = let y : depth - (k - 1) ≡ suc (depth - k) = omega (arith, v.within) in rw y (omega (arith, v.light, weight_most));
           same = last_down (weight_at l n) most k rest h e ∙ v.same;
         }
 

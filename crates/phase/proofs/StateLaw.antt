@@ -34,20 +34,20 @@ module _ {mv l : List ℕ} {n q s begin end : ℕ} (p : StateAsked mv l n q s be
 
   -- one that moves
   module _ (h : at l (5 * n + s) ≤ q) where
-    not-held : held_at l n q s ≡ false
-    not-held = le-ltb q (at l (5 * n + s)) h
+    not_held : held_at l n q s ≡ false
+    not_held = le-ltb q (at l (5 * n + s)) h
 
-    stays-most : at l (5 * n + s) ≤ most_rate
-    stays-most = omega (arith, rates_small rates)
+    stays_most : at l (5 * n + s) ≤ most_rate
+    stays_most = omega (arith, rates_small rates)
 
     pub own_fits : Fits w64 (at l (5 * n + s) * at l (2 * n + s))
-    own_fits = omega (arith, mul_bound stays-most (p.all.values s p.here))
+    own_fits = omega (arith, mul_bound stays_most (p.all.values s p.here))
 
     row_is : at l (5 * n + s) * at l (2 * n + s) + sum_to (pull mv (value_at l n)) end
         ≡ mixed mv (length mv) q (value_at l n) s + sum_to (pull mv (value_at l n)) begin
     unfolding mixed flow
     row_is =
-        rw (p.all.stays s p.here not-held, p.ends, p.begins)
+        rw (p.all.stays s p.here not_held, p.ends, p.begins)
         (omega (arith, row_sum mv (pull mv (value_at l n)) s (length mv) rates.rows))
 
     pub may_row : RowAsked mv l n begin end (at l (5 * n + s) * at l (2 * n + s))
@@ -66,6 +66,6 @@ module _ {mv l : List ℕ} {n q s begin end : ℕ} (p : StateAsked mv l n q s be
     unfolding next
     moved r u =
         let e : r ≡ mixed mv (length mv) q (value_at l n) s = omega (arith, u.is, row_is) in
-        rw (not-held, e) refl
+        rw (not_held, e) refl
 
 pub ruleset state_laws = (own_fits, may_row, held, moved)

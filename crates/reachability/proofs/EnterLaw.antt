@@ -105,8 +105,8 @@ module _ {index l₀ rows₀ : List ℕ} {n begin end tail₀ most : ℕ} {l row
             let z : set rows s 0 ≡ rows = ap (set rows s) (sym none) ∙ set-get_or rows s 0 in
             rw (e, z) (set-get_or rows (n + s) 0)
 
-        turn-left : Inv index l₀ rows₀ n begin end tail₀ most (set l (values_from n + tail) s) rows tail (k + 1)
-        turn-left =
+        turn_left : Inv index l₀ rows₀ n begin end tail₀ most (set l (values_from n + tail) s) rows tail (k + 1)
+        turn_left =
             record {
               asked = v.asked;
               first = omega (arith, v.first);
@@ -127,7 +127,7 @@ module _ {index l₀ rows₀ : List ℕ} {n begin end tail₀ most : ℕ} {l row
           → Inv index l₀ rows₀ n begin end tail₀ most l' rows' tail' (k + 1)
       turn {l'} {rows'} {tail'} e g i =
           either_state (at rows s) 1 (λ one. let z : tail' ≡ tail + 1 = omega arith in rw (z, g, i, rows_on one) (turn_on one))
-          (λ d. let none : at rows s ≡ 0 = shut d in let z : tail' ≡ tail = omega arith in rw (z, g, i, rows_left none) (turn-left none))
+          (λ d. let none : at rows s ≡ 0 = shut d in let z : tail' ≡ tail = omega arith in rw (z, g, i, rows_left none) (turn_left none))
 
   pub finish : end ≤ k → EnterLeaves index n begin end most l₀ rows₀ tail₀ l rows tail
   finish h = let e : k ≡ end = omega (arith, v.within) in record { entered = λ c x y a. rw e at (v.done c x y a) }

@@ -62,8 +62,8 @@ module _ {c : Chain} {x y : ℕ → Bool} {index l₀ rows₀ : List ℕ} {n tai
     leads : Leads c x y t
     leads = g.stands.sound t here (g.stands.queue_reached head h)
 
-    may-enters : (begin end : ℕ) → begin ≡ row_begin l n t → end ≡ index_end_at l n t → Enters c x y index l rows n begin end tail most
-    may-enters begin end b e =
+    may_enters : (begin end : ℕ) → begin ≡ row_begin l n t → end ≡ index_end_at l n t → Enters c x y index l rows n begin end tail most
+    may_enters begin end b e =
         let low : begin ≡ a.shows.row t = b ∙ begin_is t here in
         let high : end ≡ a.shows.row (suc t) = e ∙ end_is t here in
         record {
@@ -118,26 +118,26 @@ module _ {index l₀ rows₀ : List ℕ} {n tail₀ most : ℕ} {l rows : List �
   now = v.done v.asked.c v.asked.x v.asked.y v.asked.spreads
 
   module _ (h : head < tail) where
-    head-less : head < n
-    head-less = omega (arith, now.stands.few)
+    head_less : head < n
+    head_less = omega (arith, now.stands.few)
 
     few : n ≤ 512
     few = now.stands.states
 
     pub falls : n - (head + 1) < n - head
-    falls = omega (arith, head-less)
+    falls = omega (arith, head_less)
 
     pub place_fits : Fits w64 (2 * n + head)
-    place_fits = omega (arith, head-less, few)
+    place_fits = omega (arith, head_less, few)
 
     pub bytes_fit : Fits w64 ((2 * n + head) * 8)
-    bytes_fit = omega (arith, head-less, few)
+    bytes_fit = omega (arith, head_less, few)
 
     pub head_fits : Fits w64 (head + 1)
-    head_fits = omega (arith, head-less, few)
+    head_fits = omega (arith, head_less, few)
 
     pub in_values : 2 * n + head < length l
-    in_values = omega (arith, head-less, now.stands.long)
+    in_values = omega (arith, head_less, now.stands.long)
 
     state : value_at l n head < n
     state = now.stands.queue_states head h
@@ -156,7 +156,7 @@ module _ {index l₀ rows₀ : List ℕ} {n tail₀ most : ℕ} {l rows : List �
 
     module _ (begin end : ℕ) (b : begin ≡ row_begin l n (value_at l n head)) (e : end ≡ index_end_at l n (value_at l n head)) where
       pub may_enter : EnterAsked index l rows n begin end tail most
-      may_enter = record { c = v.asked.c; x = v.asked.x; y = v.asked.y; enters = may-enters v.asked.spreads now h begin end b e }
+      may_enter = record { c = v.asked.c; x = v.asked.x; y = v.asked.y; enters = may_enters v.asked.spreads now h begin end b e }
 
       pub turn : {l' rows' : List ℕ} {tail' : ℕ} → EnterLeaves index n begin end most l rows tail l' rows' tail'
           → Inv index l₀ rows₀ n tail₀ most l' rows' tail' (head + 1)
@@ -164,9 +164,9 @@ module _ {index l₀ rows₀ : List ℕ} {n tail₀ most : ℕ} {l rows : List �
           record {
             asked = v.asked;
             within =
-                let w = f.entered v.asked.c v.asked.x v.asked.y (may-enters v.asked.spreads now h begin end b e) in
+                let w = f.entered v.asked.c v.asked.x v.asked.y (may_enters v.asked.spreads now h begin end b e) in
                 omega (arith, w.went.later);
-            done = λ c x y a. let g = v.done c x y a in going_on a g h b e (f.entered c x y (may-enters a g h begin end b e));
+            done = λ c x y a. let g = v.done c x y a in going_on a g h b e (f.entered c x y (may_enters a g h begin end b e));
           }
 
   pub finish : tail ≤ head → SpreadLeaves index n most l₀ rows₀ tail₀ l rows

@@ -119,20 +119,20 @@ module _ {c : Chain} {x y : ℕ → Bool} {n m : ℕ} {l rows : List ℕ} {tail 
   -- reached and queued, the search stands, with m' states counted
   module _ (room : tail < n) (leads : Leads c x y s) (m' : ℕ) (counted : (u : ℕ) → u < m' → (u ≡ s → ⊥) → u < m)
       (few : tail + 1 + sum_to (at (marks rows n s)) m' ≤ m') where
-    queue-here : value_at (set l (values_from n + tail) s) n tail ≡ s
-    queue-here = get_or-set_same l (values_from n + tail) s 0 (omega (arith, v.long))
+    queue_here : value_at (set l (values_from n + tail) s) n tail ≡ s
+    queue_here = get_or-set_same l (values_from n + tail) s 0 (omega (arith, v.long))
 
-    queue-other : (i : ℕ) → i < tail → value_at (set l (values_from n + tail) s) n i ≡ value_at l n i
-    queue-other i b = get_or-set_other l (values_from n + tail) (values_from n + i) s 0 (omega arith)
+    queue_other : (i : ℕ) → i < tail → value_at (set l (values_from n + tail) s) n i ≡ value_at l n i
+    queue_other i b = get_or-set_other l (values_from n + tail) (values_from n + i) s 0 (omega arith)
 
     stays : (u : ℕ) → at rows (n + u) ≡ 1 → at (marks rows n s) (n + u) ≡ 1
     stays = second_stays n rows v.held s h
 
-    was-first : (u : ℕ) → u < n → (u ≡ s → ⊥) → {b : ℕ} → at (marks rows n s) u ≡ b → at rows u ≡ b
-    was-first u b d e = sym (first_other n rows v.held s h u b d) ∙ e
+    was_first : (u : ℕ) → u < n → (u ≡ s → ⊥) → {b : ℕ} → at (marks rows n s) u ≡ b → at rows u ≡ b
+    was_first u b d e = sym (first_other n rows v.held s h u b d) ∙ e
 
-    was-second : (u : ℕ) → (u ≡ s → ⊥) → at (marks rows n s) (n + u) ≡ 1 → at rows (n + u) ≡ 1
-    was-second u d e = sym (second_other n rows v.held s h u d) ∙ e
+    was_second : (u : ℕ) → (u ≡ s → ⊥) → at (marks rows n s) (n + u) ≡ 1 → at rows (n + u) ≡ 1
+    was_second u d e = sym (second_other n rows v.held s h u d) ∙ e
 
     pub reach_stands : Stands c x y n m' (set l (values_from n + tail) s) (marks rows n s) (tail + 1)
     reach_stands =
@@ -142,19 +142,19 @@ module _ {c : Chain} {x y : ℕ → Bool} {n m : ℕ} {l rows : List ℕ} {tail 
           long = omega (arith, v.long, length-set l (values_from n + tail) s);
           bits = λ k b. bits_stay n rows v.held s h k (v.bits k b);
           open_first = λ u b e. either_state u s (λ z. absurd (omega (arith, first_here n rows v.held s h, rw z at e)))
-              (λ d. v.open_first u b (was-first u b d e));
+              (λ d. v.open_first u b (was_first u b d e));
           shut_reached = λ u b e f. either_state u s (λ z. rw z (second_here n rows v.held s h))
-              (λ d. stays u (v.shut_reached u b e (was-first u b d f)));
-          sound = λ u b e. either_state u s (λ z. rw z leads) (λ d. v.sound u b (was-second u d e));
+              (λ d. stays u (v.shut_reached u b e (was_first u b d f)));
+          sound = λ u b e. either_state u s (λ z. rw z leads) (λ d. v.sound u b (was_second u d e));
           second = λ u b e. stays u (v.second u b e);
           apart = λ u b f e. either_state u s (λ z. absurd (omega (arith, first_here n rows v.held s h, rw z at e)))
-              (λ d. second_other n rows v.held s h u d ∙ v.apart u (counted u b d) f (was-first u f d e));
-          queued = λ u b f e. either_state u s (λ z. record { place = tail; early = omega arith; is = queue-here ∙ sym z })
-              (λ d. let q = v.queued u (counted u b d) f (was-second u d e) in
-              record { place = q.place; early = omega (arith, q.early); is = queue-other q.place q.early ∙ q.is });
-          queue_states = below_more _ tail (λ i b. rw (queue-other i b) (v.queue_states i b)) (rw queue-here h);
-          queue_reached = below_more _ tail (λ i b. rw (queue-other i b) (stays (value_at l n i) (v.queue_reached i b)))
-              (rw queue-here (second_here n rows v.held s h));
+              (λ d. second_other n rows v.held s h u d ∙ v.apart u (counted u b d) f (was_first u f d e));
+          queued = λ u b f e. either_state u s (λ z. record { place = tail; early = omega arith; is = queue_here ∙ sym z })
+              (λ d. let q = v.queued u (counted u b d) f (was_second u d e) in
+              record { place = q.place; early = omega (arith, q.early); is = queue_other q.place q.early ∙ q.is });
+          queue_states = below_more _ tail (λ i b. rw (queue_other i b) (v.queue_states i b)) (rw queue_here h);
+          queue_reached = below_more _ tail (λ i b. rw (queue_other i b) (stays (value_at l n i) (v.queue_reached i b)))
+              (rw queue_here (second_here n rows v.held s h));
           few = few;
         }
 

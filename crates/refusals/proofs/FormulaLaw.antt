@@ -78,32 +78,32 @@ module _ (e : Reading) (names q : ℕ) where
         at_12 h = by-nodes (rw (sym labels ∙ not-true _ h))
 
         module _ (t : not l ≡ false) {m : Bool} (limits : m ≡ all_passed Limits e.nodes) where
-          labels-pass : all_passed (Labels names) e.nodes ≡ true
-          labels-pass = sym labels ∙ not-false _ t
+          labels_pass : all_passed (Labels names) e.nodes ≡ true
+          labels_pass = sym labels ∙ not-false _ t
 
           pub at_13 : not m ≡ true → Answered (Refused 13)
           unfolding first_of
-          at_13 h = by-nodes (rw (labels-pass, sym limits ∙ not-true _ h))
+          at_13 h = by-nodes (rw (labels_pass, sym limits ∙ not-true _ h))
 
           module _ (u : not m ≡ false) {n : Bool} (order : n ≡ all_passed Order e.nodes) where
-            limits-pass : all_passed Limits e.nodes ≡ true
-            limits-pass = sym limits ∙ not-false _ u
+            limits_pass : all_passed Limits e.nodes ≡ true
+            limits_pass = sym limits ∙ not-false _ u
 
             pub at_16 : not n ≡ true → Answered (Refused 16)
             unfolding first_of
-            at_16 h = by-nodes (rw (labels-pass, limits-pass, sym order ∙ not-true _ h))
+            at_16 h = by-nodes (rw (labels_pass, limits_pass, sym order ∙ not-true _ h))
 
             module _ (v : not n ≡ false) {k : Bool} (load : k ≡ all_passed (Load q) e.nodes) where
-              order-passes : all_passed Order e.nodes ≡ true
-              order-passes = sym order ∙ not-false _ v
+              order_passes : all_passed Order e.nodes ≡ true
+              order_passes = sym order ∙ not-false _ v
 
               pub at_14 : not k ≡ true → Answered (Refused 14)
               unfolding first_of
-              at_14 h = by-nodes (rw (labels-pass, limits-pass, order-passes, sym load ∙ not-true _ h))
+              at_14 h = by-nodes (rw (labels_pass, limits_pass, order_passes, sym load ∙ not-true _ h))
 
               pub at_end : not k ≡ false → Answered Passed
               unfolding first_of
-              at_end h = by-nodes (rw (labels-pass, limits-pass, order-passes, sym load ∙ not-false _ h))
+              at_end h = by-nodes (rw (labels_pass, limits_pass, order_passes, sym load ∙ not-false _ h))
 
 -- the answer of what was read of a text, with its nodes
 pub formula_tested : (names : List Text) (o : Option Formula) (q : ℕ) {e : Reading} {count : ℕ} {r : Tested} → e ≡ reading_of names o → count ≡ length names

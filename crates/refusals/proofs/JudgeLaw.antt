@@ -71,24 +71,24 @@ module _ {moves labels : Text} {a : MovesFacts} {b : LabelsFacts} (k : Facts mov
     moves_right = k.of_moves ∙ rw (both_right.0, labels_right)
 
     -- 3 to 6, and 9 where 4 and 6 do not hold
-    first-lines-told : not (a.head && b.head) ≡ wrong_first_line moves labels
+    first_lines_told : not (a.head && b.head) ≡ wrong_first_line moves labels
     unfolding wrong_first_line
-    first-lines-told = rw (moves_right, labels_right)
+    first_lines_told = rw (moves_right, labels_right)
 
-    states-told : (eqb b.states 0 || ltb most_states b.states || not b.turn) ≡ wrong_states labels
+    states_told : (eqb b.states 0 || ltb most_states b.states || not b.turn) ≡ wrong_states labels
     unfolding wrong_states
-    states-told = rw labels_right
+    states_told = rw labels_right
 
-    count-told : ltb most_moves a.count ≡ many_moves (moves_of moves)
+    count_told : ltb most_moves a.count ≡ many_moves (moves_of moves)
     unfolding many_moves
-    count-told = rw moves_right
+    count_told = rw moves_right
 
     strange_told : a.strange ≡ strange_state (states_of labels) (moves_of moves)
     strange_told = rw moves_right
 
-    rates-told : (eqb b.states 0 || ltb most_states b.states || not b.turn) ≡ false → a.strange ≡ false
+    rates_told : (eqb b.states 0 || ltb most_states b.states || not b.turn) ≡ false → a.strange ≡ false
         → not a.rates ≡ wrong_rate (moves_of moves)
-    rates-told h4 h6 =
+    rates_told h4 h6 =
         let few : ltb most_states (states_of labels) ≡ false
         = rw labels_right at (neither (eqb b.states 0) _ (neither _ (not b.turn) h4).0).1 in
         rw moves_right (rw (few, sym strange_told ∙ h6) (not-not (wrong_rate (moves_of moves))))
@@ -105,12 +105,12 @@ module _ (a : MovesFacts) (b : LabelsFacts) where
   module _ (h2 : not (a.layout && b.layout) ≡ false) where
     pub at_3 : not (a.head && b.head) ≡ true → Answered (Refused 3)
     unfolding sheet_tests first_of
-    at_3 h moves labels k = rw (sym (layouts_told k) ∙ h2, sym (first-lines-told k h2) ∙ h)
+    at_3 h moves labels k = rw (sym (layouts_told k) ∙ h2, sym (first_lines_told k h2) ∙ h)
 
     module _ (h3 : not (a.head && b.head) ≡ false) where
       pub at_4 : (eqb b.states 0 || ltb most_states b.states || not b.turn) ≡ true → Answered (Refused 4)
       unfolding sheet_tests first_of
-      at_4 h moves labels k = rw (sym (layouts_told k) ∙ h2, sym (first-lines-told k h2) ∙ h3, sym (states-told k h2) ∙ h)
+      at_4 h moves labels k = rw (sym (layouts_told k) ∙ h2, sym (first_lines_told k h2) ∙ h3, sym (states_told k h2) ∙ h)
 
       module _ (h4 : (eqb b.states 0 || ltb most_states b.states || not b.turn) ≡ false) where
         -- 5 and on
@@ -121,9 +121,9 @@ module _ (a : MovesFacts) (b : LabelsFacts) where
         first_from5 moves labels k =
             rw (
               sym (layouts_told k) ∙ h2,
-              sym (first-lines-told k h2) ∙ h3,
-              sym (states-told k h2) ∙ h4,
-              sym (count-told k h2),
+              sym (first_lines_told k h2) ∙ h3,
+              sym (states_told k h2) ∙ h4,
+              sym (count_told k h2),
               sym (strange_told k h2),
             )
 
@@ -137,8 +137,8 @@ module _ (a : MovesFacts) (b : LabelsFacts) where
           module _ (h6 : a.strange ≡ false) where
             pub at_9 : not a.rates ≡ true → Answered (Refused 9)
             at_9 h moves labels k =
-                rw (first_from5 moves labels k, le-ltb most_moves a.count h5, h6, sym (rates-told k h2 h4 h6) ∙ h)
+                rw (first_from5 moves labels k, le-ltb most_moves a.count h5, h6, sym (rates_told k h2 h4 h6) ∙ h)
 
             pub at_end : not a.rates ≡ false → Answered Passed
             at_end h moves labels k =
-                rw (first_from5 moves labels k, le-ltb most_moves a.count h5, h6, sym (rates-told k h2 h4 h6) ∙ h)
+                rw (first_from5 moves labels k, le-ltb most_moves a.count h5, h6, sym (rates_told k h2 h4 h6) ∙ h)

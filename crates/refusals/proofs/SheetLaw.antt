@@ -70,8 +70,8 @@ module _ (moves labels : Text) where
           unfolding m.moves_facts
           moves_right = of_moves ∙ rw (k.moves_layout_lem, labels_right)
 
-          q-right : a.top ≡ (dimensions_of moves labels).q
-          q-right = rw moves_right (rw (k.known_states, le-ltb most_states (sheet_of moves labels).states k.sound.few_states, k.good_rates) (top_is (sheet_of moves labels) k.sound))
+          q_right : a.top ≡ (dimensions_of moves labels).q
+          q_right = rw moves_right (rw (k.known_states, le-ltb most_states (sheet_of moves labels).states k.sound.few_states, k.good_rates) (top_is (sheet_of moves labels) k.sound))
 
           pub sheet_passes : record {
             tested = Passed;
@@ -79,4 +79,4 @@ module _ (moves labels : Text) where
           }
               ≡ tested_sheet moves labels
           unfolding tested_sheet
-          sheet_passes = rw (none_holds, q-right, labels_right, moves_right)
+          sheet_passes = rw (none_holds, q_right, labels_right, moves_right)

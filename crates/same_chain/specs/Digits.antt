@@ -123,11 +123,11 @@ number_is most s h =
     let i = (and-eq-true_iff (every is_digit s && leb 1 (length s) && leb (length s) most) (not (zero_led s))).0 h in
     let j = (and-eq-true_iff (every is_digit s && leb 1 (length s)) (leb (length s) most)).0 i.0 in
     let k = (and-eq-true_iff (every is_digit s) (leb 1 (length s))).0 j.0 in
-    record { digits = k.0; some = leb-true 1 _ k.1; few = leb-true _ most j.1; led = not-true (zero_led s) i.1 }
+    record { digits = k.0; some = leb-true 1 _ k.1; few = leb-true _ most j.1; led = not_true (zero_led s) i.1 }
   where
-    not-true : (b : Bool) → not b ≡ true → b ≡ false
-    not-true false h = refl
-    not-true true h = sym h
+    not_true : (b : Bool) → not b ≡ true → b ≡ false
+    not_true false h = refl
+    not_true true h = sym h
 
 decimal_value : (s : Text) → every is_digit s ≡ true → 1 ≤ length s → zero_led s ≡ false → decimal (value_of s) ≡ s
 unfolding value_from every zero_led

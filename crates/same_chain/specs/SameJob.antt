@@ -103,13 +103,13 @@ module _ (a b : Text) (h : SameLines a b) where
     unfolding text_tests
     same_tests = rw (same_sheet_tests labels, same_chain labels) refl
 
-    same-short : (lent : Buffers ℕ) → short_buffer one lent ≡ short_buffer other lent
+    same_short : (lent : Buffers ℕ) → short_buffer one lent ≡ short_buffer other lent
     unfolding short_buffer
-    same-short lent = rw same_count refl
+    same_short lent = rw same_count refl
 
     pub same_refusal : (lent : Buffers ℕ) → refusal one lent ≡ refusal other lent
     unfolding refusal
-    same_refusal lent = rw (same_tests, same-short lent) refl
+    same_refusal lent = rw (same_tests, same_short lent) refl
 
     same_by : (o : Option ℕ) → outcome_by one o ≡ outcome_by other o
     unfolding outcome_by

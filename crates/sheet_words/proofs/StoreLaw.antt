@@ -84,12 +84,12 @@ module _ {m₀ labels : Text} (p : SheetPassed m₀ labels) {words₀ words₁ :
     words_long = l.laid.same ∙ t.same
 
     -- the rates to the own state are below the half that the ends of the index's rows stand above
-    own-small : (s : ℕ) → s < states_of labels → at vectors₁ (owns_from (states_of labels) + s) < half
-    own-small s b = omega (arith, l.owns s b, own_slower (drop m words₁) m s, lines.limit s b)
+    own_small : (s : ℕ) → s < states_of labels → at vectors₁ (owns_from (states_of labels) + s) < half
+    own_small s b = omega (arith, l.owns s b, own_slower (drop m words₁) m s, lines.limit s b)
 
-    index-asked : IndexAsked words₂ m vectors₁ (owns_from (states_of labels)) (states_of labels)
-    index-asked =
-        may_index rows words₂ vectors₁ (rows_lines l.laid.rows lines) row_at (omega (arith, words_long)) (omega (arith, l.same)) own-small
+    index_asked : IndexAsked words₂ m vectors₁ (owns_from (states_of labels)) (states_of labels)
+    index_asked =
+        may_index rows words₂ vectors₁ (rows_lines l.laid.rows lines) row_at (omega (arith, words_long)) (omega (arith, l.same)) own_small
 
     moving : (j : ℕ) → j < m → (from_of words₂ j ≡ to_of words₂ j → ⊥) → 0 < rate_of words₂ j
     moving j b = rw (← row_at j b) (moving_stored (drop m words₁) (sheet_of m₀ labels) p.sound holds l.laid.rows j b)
@@ -113,13 +113,13 @@ module _ {m₀ labels : Text} (p : SheetPassed m₀ labels) {words₀ words₁ :
 
       shown : wanted ≡ true → IndexShows (chain_of (sheet_of m₀ labels)) behind vectors₂ (owns_from (states_of labels)) (states_of labels)
       shown e =
-          index_shows behind index-asked (x.index e) shows row_at moving
+          index_shows behind index_asked (x.index e) shows row_at moving
           (length-take-le m (drop m words) (omega (arith, words_same, length-drop m words)))
           (λ k b. get_or-take m (drop m words) k 0 b ∙ get_or-drop m words k 0)
 
-      all-stored : {vectors : List ℕ} → Filled (state_word labels) (marks_from (states_of labels)) (states_of labels) vectors₂ vectors
+      all_stored : {vectors : List ℕ} → Filled (state_word labels) (marks_from (states_of labels)) (states_of labels) vectors₂ vectors
           → Stored wanted m₀ labels words₀ words vectors₀ vectors
-      all-stored {vectors} f =
+      all_stored {vectors} f =
           record {
             lines = drop m words₁;
             holds = holds;
@@ -162,7 +162,7 @@ module _ {m₀ labels : Text} {d : Dimensions} {words₀ vectors₀ : List ℕ} 
 
     module _ {words₂ vectors₁ : List ℕ} (l : Laid (back words₀ d.moves ys) words₂ d.moves d.states vectors₀ vectors₁) where
       pub may_index_words : IndexAsked words₂ d.moves vectors₁ (owns_from d.states) d.states
-      may_index_words = rw p.is (index-asked p.passed p.room moved (rw p.is at l) p.long)
+      may_index_words = rw p.is (index_asked p.passed p.room moved (rw p.is at l) p.long)
 
       module _ {wanted : Bool} {words vectors₂ : List ℕ} (x : IndexStored wanted words₂ words d.moves d.states vectors₁ vectors₂) where
         pub marks_asked : MarksAsked labels d.names vectors₂ d.states
@@ -179,4 +179,4 @@ module _ {m₀ labels : Text} {d : Dimensions} {words₀ vectors₀ : List ℕ} 
 
         pub stored : {vectors : List ℕ} → Filled (state_word labels) (marks_from d.states) d.states vectors₂ vectors
             → Stored wanted m₀ labels words₀ words vectors₀ vectors
-        stored f = all-stored p.passed p.room moved (rw p.is at l) p.long (rw p.is at x) (rw p.is at f)
+        stored f = all_stored p.passed p.room moved (rw p.is at l) p.long (rw p.is at x) (rw p.is at f)

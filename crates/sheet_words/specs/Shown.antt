@@ -21,16 +21,16 @@ unfolding same
 same_self [] = refl
 same_self (b ∷ t) = rw (eq-eqb b b refl) (same_self t)
 
-or-true : (x : Bool) → (x || true) ≡ true
-or-true true = refl
-or-true false = refl
+or_true : (x : Bool) → (x || true) ≡ true
+or_true true = refl
+or_true false = refl
 
 -- a text that stands among names is one of them
 among_at : (names : List Text) (x : Text) (i : ℕ) → i < length names → get_or names i [] ≡ x → among names x ≡ true
 unfolding among
 among_at [] x i l e = absurd (omega arith)
 among_at (y ∷ names) x zero l e = rw (e, same_self x)
-among_at (y ∷ names) x (suc i) l e = rw (among_at names x i (omega arith) e) (or-true (same y x))
+among_at (y ∷ names) x (suc i) l e = rw (among_at names x i (omega arith) e) (or_true (same y x))
 
 -- a name that does not repeat stands at its own place
 place_at : (names : List Text) → no_repeat names ≡ true → (i : ℕ) → i < length names → place_of names (get_or names i []) ≡ i

@@ -86,9 +86,9 @@ module _ (j : Job) (before after : Buffers (List ℕ)) (a : Answer) (n : ℕ) (o
     unfolding filled
     upper_is = rw (here, t.buffers) refl
 
-    bytes-are : after.verdicts ≡ written (column (λ s. verdict_byte (t.verdict s)) n) before.verdicts
+    bytes_are : after.verdicts ≡ written (column (λ s. verdict_byte (t.verdict s)) n) before.verdicts
     unfolding filled
-    bytes-are = rw (here, t.buffers) refl
+    bytes_are = rw (here, t.buffers) refl
 
     order_is : after.order ≡ written (worst_first t.lower t.upper n) before.order
     unfolding filled
@@ -104,16 +104,16 @@ module _ (j : Job) (before after : Buffers (List ℕ)) (a : Answer) (n : ℕ) (o
     kept new l k m h q =
         le-leb n (length k) (omega (arith, few, ap length q, m, written_length new l (omega (arith, few, m))))
 
-    column-kept : (f : ℕ → ℕ) (l k : List ℕ) → 512 ≤ length l → k ≡ written (column f n) l → leb n (length k) ≡ true
-    column-kept f l k h q = kept (column f n) l k (column_length f n) h q
+    column_kept : (f : ℕ → ℕ) (l k : List ℕ) → 512 ≤ length l → k ≡ written (column f n) l → leb n (length k) ≡ true
+    column_kept f l k h q = kept (column f n) l k (column_length f n) h q
 
     all_there : is_complete n a after.lower after.upper after.verdicts after.order ≡ true
     all_there =
         rw (
           t.answer,
-          column-kept t.lower before.lower after.lower lent.lowers lower_is,
-          column-kept t.upper before.upper after.upper lent.uppers upper_is,
-          column-kept (λ s. verdict_byte (t.verdict s)) before.verdicts after.verdicts lent.bytes bytes-are,
+          column_kept t.lower before.lower after.lower lent.lowers lower_is,
+          column_kept t.upper before.upper after.upper lent.uppers upper_is,
+          column_kept (λ s. verdict_byte (t.verdict s)) before.verdicts after.verdicts lent.bytes bytes_are,
           kept (worst_first t.lower t.upper n) before.order after.order (ordered_length _ n) lent.places order_is,
           worst_are_states n t.lower t.upper after.order order_front,
         )
@@ -130,7 +130,7 @@ module _ (j : Job) (before after : Buffers (List ℕ)) (a : Answer) (n : ℕ) (o
         (depth_of (job_chain j) (job_formula j))
         (λ s b. rw lower_is (written_at_lem t.lower n before.lower s b))
         (λ s b. rw upper_is (written_at_lem t.upper n before.upper s b))
-        (λ s b. rw bytes-are (ap verdict_at (written_at_lem (λ k. verdict_byte (t.verdict k)) n before.verdicts s b) ∙ byte_read (t.verdict s))))
+        (λ s b. rw bytes_are (ap verdict_at (written_at_lem (λ k. verdict_byte (t.verdict k)) n before.verdicts s b) ∙ byte_read (t.verdict s))))
 
     report-text : TextFor j a old new r
     unfolding Prints

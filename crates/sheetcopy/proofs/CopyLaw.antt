@@ -37,13 +37,13 @@ module _ (moves labels : Text) where
       (neither (out_of_bytes sheet_bytes moves) (out_of_bytes sheet_bytes labels) n.0).0).1
 
   module _ (before : List ℕ) (big : sheet_bytes ≤ length before) where
-    copy-few : first_of (sheet_tests moves labels) ≡ none → length (copy_text moves labels) ≤ length before
-    copy-few e = omega (arith, copy_short moves labels e, moves_few e)
+    copy_few : first_of (sheet_tests moves labels) ≡ none → length (copy_text moves labels) ≤ length before
+    copy_few e = omega (arith, copy_short moves labels e, moves_few e)
 
     -- the buffer is long enough for every copy, so that the refusal is that of the two texts
-    by-texts : copy_refusal moves labels (length before) ≡ first_of (sheet_tests moves labels)
+    by_texts : copy_refusal moves labels (length before) ≡ first_of (sheet_tests moves labels)
     unfolding copy_refusal first_of
-    by-texts = go (first_of (sheet_tests moves labels)) refl
+    by_texts = go (first_of (sheet_tests moves labels)) refl
       where
         last : List Test
         last = test 17 (short_copy moves labels (length before)) ∷ []
@@ -52,7 +52,7 @@ module _ (moves labels : Text) where
         go (some k) e = first_found (sheet_tests moves labels) last k e
         go none e =
             first_after (sheet_tests moves labels) last (first_none (sheet_tests moves labels) e)
-            ∙ rw (le-ltb (length before) (length (copy_text moves labels)) (copy-few e)) refl
+            ∙ rw (le-ltb (length before) (length (copy_text moves labels)) (copy_few e)) refl
 
     -- the text that was written is the one that is printed
     shown : (text new : List ℕ) → length text ≤ length before → new ≡ written text before → IsPrefixLen (length text) new
@@ -63,7 +63,7 @@ module _ (moves labels : Text) where
       -- copied
       pub copy_printed : (n : ℕ) → a ≡ Length n → IsPrefixLen n after × CopyWritten moves labels before after (record { length = n; number = 0 })
       unfolding Copied CopiedBy printed_copy
-      copy_printed n e = go (first_of (sheet_tests moves labels)) refl (rw by-texts at c)
+      copy_printed n e = go (first_of (sheet_tests moves labels)) refl (rw by_texts at c)
         where
           go : (o : Option ℕ) → first_of (sheet_tests moves labels) ≡ o → CopiedBy o (copy_text moves labels) before (answer_of a) after
               → IsPrefixLen n after × CopyWritten moves labels before after (record { length = n; number = 0 })
@@ -74,14 +74,14 @@ module _ (moves labels : Text) where
           go none q t =
               let d : copied n ≡ copied (length (copy_text moves labels)) = rw e at t.0 in
               let m : n ≡ length (copy_text moves labels) = cc in (
-                rw m (shown (copy_text moves labels) after (copy-few q) t.1),
+                rw m (shown (copy_text moves labels) after (copy_few q) t.1),
                 record { count = rw q m; number = rw q refl; buffer = rw q t.1 },
               )
 
       -- refused: the number is that of the texts, and the buffer is as it was
       known : (k : ℕ) → a ≡ Refused k → (first_of (sheet_tests moves labels) ≡ some k) × (after ≡ before)
       unfolding Copied CopiedBy
-      known k e = go (first_of (sheet_tests moves labels)) refl (rw by-texts at c)
+      known k e = go (first_of (sheet_tests moves labels)) refl (rw by_texts at c)
         where
           go : (o : Option ℕ) → first_of (sheet_tests moves labels) ≡ o → CopiedBy o (copy_text moves labels) before (answer_of a) after
               → (first_of (sheet_tests moves labels) ≡ some k) × (after ≡ before)
@@ -94,12 +94,12 @@ module _ (moves labels : Text) where
               let z : ◌≡◌ {A = ℕ} 0 1 = cc in
               absurd (omega arith)
 
-      text-few : (k : ℕ) → a ≡ Refused k → length (refusal_text k) ≤ length before
-      text-few k e =
-          omega (arith, refusal_few k (omega (arith, copy_number_most moves labels (length before) k (by-texts ∙ (known k e).0))))
+      text_few : (k : ℕ) → a ≡ Refused k → length (refusal_text k) ≤ length before
+      text_few k e =
+          omega (arith, refusal_few k (omega (arith, copy_number_most moves labels (length before) k (by_texts ∙ (known k e).0))))
 
       pub refusal_room : (k : ℕ) → a ≡ Refused k → Room 0 (refusal_text k) after
-      refusal_room k e = omega (arith, text-few k e, ap length (known k e).1)
+      refusal_room k e = omega (arith, text_few k e, ap length (known k e).1)
 
       pub refusal_printed : (k : ℕ) → a ≡ Refused k → {r : ℕ} {new : List ℕ} → Wrote 0 (refusal_text k) after new r
           → IsPrefixLen r new × CopyWritten moves labels before new (record { length = r; number = k })
@@ -108,4 +108,4 @@ module _ (moves labels : Text) where
           let m : r ≡ length (refusal_text k) = w.after ∙ omega arith in
           let q : first_of (sheet_tests moves labels) ≡ some k = (known k e).0 in
           let b : new ≡ written (refusal_text k) before = w.holds ∙ rw (known k e).1 refl in
-          (rw m (shown (refusal_text k) new (text-few k e) b), record { count = rw q m; number = rw q refl; buffer = rw q b })
+          (rw m (shown (refusal_text k) new (text_few k e) b), record { count = rw q m; number = rw q refl; buffer = rw q b })

@@ -54,35 +54,35 @@ module _ {mv l first second : List ℕ} {n q last : ℕ} (p : BothAsked mv l fir
   may_look = p.read.ends
 
   module _ {x : List ℕ} (c : Like n l x) where
-    rates-like : Rates mv x n q
-    rates-like = rates_kept p.read.rates c.same (λ k a b. c.after k a (omega arith))
+    rates_like : Rates mv x n q
+    rates_like = rates_kept p.read.rates c.same (λ k a b. c.after k a (omega arith))
 
-    weight-like : (k : ℕ) → k ≤ last → weight_at x n k ≡ weight_at l n k
-    weight-like k b = c.after (weights_from n + k) (omega arith) (omega (arith, p.read.room))
+    weight_like : (k : ℕ) → k ≤ last → weight_at x n k ≡ weight_at l n k
+    weight_like k b = c.after (weights_from n + k) (omega arith) (omega (arith, p.read.room))
 
-    total-like : total_in x n ≡ total_in l n
-    total-like = c.after (total_at n) (omega arith) (omega arith)
+    total_like : total_in x n ≡ total_in l n
+    total_like = c.after (total_at n) (omega arith) (omega arith)
 
-    light-like : LightAsked x n last
-    light-like =
+    light_like : LightAsked x n last
+    light_like =
         record {
           states = p.read.ends.states;
-          long = rates-like.long;
+          long = rates_like.long;
           limit = p.read.limit;
           room = p.read.room;
-          weights = λ k b. rw (weight-like k b) (p.read.weights k b);
+          weights = λ k b. rw (weight_like k b) (p.read.weights k b);
         }
 
     -- sums over weights that are the same
     sum_like : (v u : ℕ → ℕ) → ((k : ℕ) → v k ≡ u k)
         → sum_to (λ k. part (weight_at x n k) (v k)) (last + 1) ≡ sum_to (λ k. part (weight_at l n k) (u k)) (last + 1)
     sum_like v u e =
-        sum_cong (λ k. part (weight_at x n k) (v k)) (λ k. part (weight_at l n k) (u k)) (last + 1) (λ k b. rw (weight-like k (omega arith), e k) refl)
+        sum_cong (λ k. part (weight_at x n k) (v k)) (λ k. part (weight_at l n k) (u k)) (last + 1) (λ k b. rw (weight_like k (omega arith), e k) refl)
 
     -- so too where the upper ends are the same
-    high-like : ((g : ℕ) → g < n → at x (n + g) ≡ at l (n + g)) → (s : ℕ) → s < n
+    high_like : ((g : ℕ) → g < n → at x (n + g) ≡ at l (n + g)) → (s : ℕ) → s < n
         → sum_from mv first second x n q last true s ≡ sum_from mv first second l n q last true s
-    high-like e s h =
+    high_like e s h =
         sum_like (λ k. value_from mv first second x n q true k s) (λ k. value_from mv first second l n q true k s)
         (λ k. run_cong mv (length mv) n q p.read.rates.lines.targets _ _ _ _ (λ g d. ap (λ (y : ℕ). unit * y) (e g d)) (λ g d. refl) k s h)
 
@@ -94,89 +94,89 @@ module _ {mv l first second : List ℕ} {n q last : ℕ} (p : BothAsked mv l fir
       (λ g e. omega (arith, p.read.ends.small b g e)) (rates_slow p.read.rates) k s h)
 
   module _ {b : List ℕ} (i : Read mv first second n q last false l b) where
-    like-read : Like n l b
-    like-read = record { same = i.same; after = i.after }
+    like_read : Like n l b
+    like_read = record { same = i.same; after = i.after }
 
     pub may_lower : LowerAsked b n
     may_lower =
         record {
           states = p.read.ends.states;
-          long = (rates-like like-read).long;
-          some = rw (total-like like-read) p.some;
-          divisor = rw (total-like like-read) p.divisor;
-          sums = λ s h. rw (i.sums s h, total-like like-read) (small false s h);
+          long = (rates_like like_read).long;
+          some = rw (total_like like_read) p.some;
+          divisor = rw (total_like like_read) p.divisor;
+          sums = λ s h. rw (i.sums s h, total_like like_read) (small false s h);
         }
 
     module _ {x : List ℕ} (o : Filled (lower_at b n) 0 n b x) where
-      like-lower : Like n l x
-      like-lower = like_on like-read o.same (λ k h d. o.after k (omega arith))
+      like_lower : Like n l x
+      like_lower = like_on like_read o.same (λ k h d. o.after k (omega arith))
 
       lower_is : (s : ℕ) → s < n → at x s ≡ sum_from mv first second l n q last false s * scale / total_in l n
-      lower_is s h = table_at o s h ∙ rw (i.sums s h, total-like like-read) refl
+      lower_is s h = table_at o s h ∙ rw (i.sums s h, total_like like_read) refl
 
       upper_was : (s : ℕ) → s < n → at x (n + s) ≡ at l (n + s)
       upper_was s h = o.after (n + s) (omega arith) ∙ i.before (n + s) (omega arith)
 
-      lowered-small : (c : Bool) (s : ℕ) → s < n → end_of c x n s ≤ billion
-      lowered-small true s h = rw (upper_was s h) (p.read.ends.small true s h)
-      lowered-small false s h = rw (lower_is s h) (end_most _ (total_in l n) (small false s h))
+      lowered_small : (c : Bool) (s : ℕ) → s < n → end_of c x n s ≤ billion
+      lowered_small true s h = rw (upper_was s h) (p.read.ends.small true s h)
+      lowered_small false s h = rw (lower_is s h) (end_most _ (total_in l n) (small false s h))
 
-      ends-lowered : EndsAsked x first second n
-      ends-lowered =
+      ends_lowered : EndsAsked x first second n
+      ends_lowered =
           record {
             states = p.read.ends.states;
-            room = omega (arith, like-lower.same, p.read.ends.room);
+            room = omega (arith, like_lower.same, p.read.ends.room);
             in_first = p.read.ends.in_first;
             in_second = p.read.ends.in_second;
-            small = lowered-small;
+            small = lowered_small;
           }
 
       pub may_high : ReadAsked mv x first second n q last
       may_high =
           record {
-            rates = rates-like like-lower;
+            rates = rates_like like_lower;
             some = p.read.some;
-            ends = ends-lowered;
+            ends = ends_lowered;
             limit = p.read.limit;
             room = p.read.room;
-            weights = (light-like like-lower).weights;
+            weights = (light_like like_lower).weights;
           }
 
       module _ {gap e : ℕ} {y : List ℕ} (d : gap ≡ start_gap l first second n) (j : ReadUnless mv first second n q last gap x y) (c : e ≡ error_of gap) where
-        like-high : Like n l y
-        like-high = like_on like-lower j.same j.after
+        like_high : Like n l y
+        like_high = like_on like_lower j.same j.after
 
         -- where the starts are near, the sums of the lower one stand there
         sum_is : (s : ℕ) → s < n
             → sum_at y n s ≡ cond (leb gap most_gap) (sum_from mv first second l n q last false s) (sum_from mv first second l n q last true s)
-        sum_is s h = j.sums s h ∙ rw (o.after (4 * n + s) (omega arith) ∙ i.sums s h, high-like like-lower upper_was s h) refl
+        sum_is s h = j.sums s h ∙ rw (o.after (4 * n + s) (omega arith) ∙ i.sums s h, high_like like_lower upper_was s h) refl
 
         whole_like : whole_of y n last e ≡ whole_of l n last e
-        whole_like = ap (λ (t : ℕ). t - (last + 1)) (sum_like like-high (λ k. one - (e + k)) (λ k. one - (e + k)) (λ k. refl))
+        whole_like = ap (λ (t : ℕ). t - (last + 1)) (sum_like like_high (λ k. one - (e + k)) (λ k. one - (e + k)) (λ k. refl))
 
-        whole-small : whole_of l n last e * grain ≤ total_in l n * one
-        whole-small = omega (arith, p.most (λ k. one - (e + k)) (λ k. omega arith))
+        whole_small : whole_of l n last e * grain ≤ total_in l n * one
+        whole_small = omega (arith, p.most (λ k. one - (e + k)) (λ k. omega arith))
 
         pub may_upper : UpperAsked y n last e
         may_upper =
             record {
-              gather = record { light = light-like like-high; error = rw c (error_most gap) };
+              gather = record { light = light_like like_high; error = rw c (error_most gap) };
               over = record {
-                some = rw (total-like like-high) p.some;
-                divisor = rw (total-like like-high) p.divisor;
-                most = rw (total-like like-high, whole_like) whole-small;
+                some = rw (total_like like_high) p.some;
+                divisor = rw (total_like like_high) p.divisor;
+                most = rw (total_like like_high, whole_like) whole_small;
               };
             }
 
         module _ {z : List ℕ} (u : Filled (upper_at y n last e) n n y z) where
-          like-upper : Like n l z
-          like-upper = like_on like-high u.same (λ k h d. u.after k (omega arith))
+          like_upper : Like n l z
+          like_upper = like_on like_high u.same (λ k h d. u.after k (omega arith))
 
           lower_was : (s : ℕ) → s < n → at z s ≡ at x s
           lower_was s h = u.before s (omega arith) ∙ j.before s (omega arith)
 
           upper_is : (s : ℕ) → s < n → at z (n + s) ≡ upper_from (sum_at y n s) (total_in l n) (whole_of l n last e)
-          upper_is s h = u.filled s h ∙ rw (total-like like-high, whole_like) refl
+          upper_is s h = u.filled s h ∙ rw (total_like like_high, whole_like) refl
 
           upper_meant : (s : ℕ) → s < n → at z (n + s) ≡ upper_by mv first second l n q last gap s
           upper_meant s h =
@@ -185,27 +185,27 @@ module _ {mv l first second : List ℕ} {n q last : ℕ} (p : BothAsked mv l fir
               (upper_split (leb gap most_gap) (sum_from mv first second l n q last false s) (sum_from mv first second l n q last true s) (total_in l n)
               (unit * gap) (whole_of l n last))
 
-          pointed-small : (c : Bool) (s : ℕ) → s < n → end_of c z n s ≤ billion
-          pointed-small true s h = rw (upper_is s h) (omega arith)
-          pointed-small false s h = rw (lower_was s h) (lowered-small false s h)
+          pointed_small : (c : Bool) (s : ℕ) → s < n → end_of c z n s ≤ billion
+          pointed_small true s h = rw (upper_is s h) (omega arith)
+          pointed_small false s h = rw (lower_was s h) (lowered_small false s h)
 
           pub may_point : EndsAsked z first second n
           may_point =
               record {
                 states = p.read.ends.states;
-                room = omega (arith, like-upper.same, p.read.ends.room);
+                room = omega (arith, like_upper.same, p.read.ends.room);
                 in_first = p.read.ends.in_first;
                 in_second = p.read.ends.in_second;
-                small = pointed-small;
+                small = pointed_small;
               }
 
           pub is_both : {w : List ℕ} → Pointed first second n z w → Both mv first second n q last l w
           is_both f =
               record {
-                same = f.same ∙ like-upper.same;
+                same = f.same ∙ like_upper.same;
                 lowers = λ s h. f.lowers s h ∙ ap (pointed (verdicts first s) (verdicts second s)) (lower_was s h ∙ lower_is s h);
                 uppers = λ s h. f.uppers s h ∙ ap (pointed (verdicts first s) (verdicts second s)) (rw d at (upper_meant s h));
-                after = λ k h b. f.after k (omega arith) ∙ like-upper.after k h b;
+                after = λ k h b. f.after k (omega arith) ∙ like_upper.after k h b;
               }
 
 pub ruleset both_laws = (may_look, may_lower, may_high, may_upper, may_point, is_both)

@@ -62,14 +62,14 @@ module _ {mv l first none : List ℕ} {n q t : ℕ} (p : EarlierAsked mv l first
         (end_is false) (end_is true)
 
     -- one end of the phase is that of the phase that starts from the until's
-    earlier-end : (b : Bool) (g : ℕ) → g < n
+    earlier_end : (b : Bool) (g : ℕ) → g < n
         → phase_end mv first none x n q (q * t) b g
         ≡ cond (eqb (q * t) 0) (cond (read_as b (verdicts first g)) (end_of b l n g) 0)
         (pointed (verdicts first g) No
         (end_by b (q * t) (load_depth (q * t)) (earlier_gap n (verdicts first) (at l) (λ i. at l (n + i)))
         (λ k. started_value mv q (λ i. read_as false (verdicts first i)) (at l) k g)
         (λ k. started_value mv q (λ i. read_as true (verdicts first i)) (λ i. at l (n + i)) k g)))
-    earlier-end b g h =
+    earlier_end b g h =
         by_load (eqb (q * t) 0) (λ z. z) (end_is b g h)
         (end_from mv first none x n q (q * t) (load_depth (q * t)) _ p.prepared.rates.lines.targets
         (λ c i. unit * cond (read_as c (verdicts first i)) (end_of c l n i) 0)
@@ -83,8 +83,8 @@ module _ {mv l first none : List ℕ} {n q t : ℕ} (p : EarlierAsked mv l first
           deep = u.deep;
           ends = record {
             same = u.ends.same ∙ s.same;
-            lowers = λ g h. u.ends.lowers g h ∙ earlier-end false g h;
-            uppers = λ g h. u.ends.uppers g h ∙ earlier-end true g h;
+            lowers = λ g h. u.ends.lowers g h ∙ earlier_end false g h;
+            uppers = λ g h. u.ends.uppers g h ∙ earlier_end true g h;
             after = λ k h. u.ends.after k h ∙ s.after k h;
           };
         }

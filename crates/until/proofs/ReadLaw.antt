@@ -40,19 +40,19 @@ module _ {mv l first second : List ℕ} {n q last : ℕ} (p : ReadAsked mv l fir
       }
 
   module _ {b : Bool} {x : List ℕ} (i : Laid first second n q b l x) where
-    start-most : (s : ℕ) → s < n → next_at x n s ≤ one
-    start-most s h = rw (i.values s h) (omega (arith, p.ends.small b s h))
+    start_most : (s : ℕ) → s < n → next_at x n s ≤ one
+    start_most s h = rw (i.values s h) (omega (arith, p.ends.small b s h))
 
-    weight-laid : (k : ℕ) → weight_at x n k ≡ weight_at l n k
-    weight-laid k = i.after (weights_from n + k) (omega arith)
+    weight_laid : (k : ℕ) → weight_at x n k ≡ weight_at l n k
+    weight_laid k = i.after (weights_from n + k) (omega arith)
 
     pub may_begin : BeginAsked x n
     may_begin =
         record {
           states = p.ends.states;
           long = omega (arith, i.same, p.rates.long);
-          weight = rw (sym (first_weight x n), weight-laid 0) (p.weights 0 (omega arith));
-          values = start-most;
+          weight = rw (sym (first_weight x n), weight_laid 0) (p.weights 0 (omega arith));
+          values = start_most;
         }
 
     module _ {y : List ℕ} (g : Begun n x y) where
@@ -65,8 +65,8 @@ module _ {mv l first second : List ℕ} {n q last : ℕ} (p : ReadAsked mv l fir
       held_is : (s : ℕ) → s < n → held_at y n q s ≡ held_of (read_phase b first second) s
       held_is s h = rw (stay_is s h, i.stays s h) (stay_held q (exit_at l n s) (held_of (read_phase b first second) s))
 
-      stays-is : (s : ℕ) → s < n → held_at y n q s ≡ false → stay_at y n s ≡ q - exit_of mv (length mv) s
-      stays-is s h e = stay_is s h ∙ i.stays s h ∙ rw (sym (held_is s h) ∙ e, p.rates.exits s h) refl
+      stays_is : (s : ℕ) → s < n → held_at y n q s ≡ false → stay_at y n s ≡ q - exit_of mv (length mv) s
+      stays_is s h e = stay_is s h ∙ i.stays s h ∙ rw (sym (held_is s h) ∙ e, p.rates.exits s h) refl
 
       weight_is : (k : ℕ) → k ≤ last → weight_at y n k ≡ weight_at l n k
       weight_is k h = kept (weights_from n + k) (omega arith) (omega (arith, p.room))
@@ -77,13 +77,13 @@ module _ {mv l first second : List ℕ} {n q last : ℕ} (p : ReadAsked mv l fir
             moving = record {
               rates = rates_kept p.rates (g.same ∙ i.same) (λ k h c. kept k h (omega arith));
               some = p.some;
-              values = λ s h. rw (g.values s h) (start-most s h);
-              stays = stays-is;
+              values = λ s h. rw (g.values s h) (start_most s h);
+              stays = stays_is;
             };
             number = g.number;
             next = λ s h. g.next s h ∙ sym (g.values s h);
             sums = λ s h. g.sums s h
-                ∙ rw (weight_is 0 (omega arith), g.values s h, ← weight-laid 0, first_weight x n) refl;
+                ∙ rw (weight_is 0 (omega arith), g.values s h, ← weight_laid 0, first_weight x n) refl;
             limit = p.limit;
             room = p.room;
             weights = λ k h. rw (weight_is k h) (p.weights k h);

@@ -45,9 +45,9 @@ module _ {mv l first second : List ℕ} {n q a depth : ℕ} (p : SummedAsked mv 
     light : (k : ℕ) → k ≤ depth → weight_at w n k ≤ peak
     light k h = rw (u.weights k h) (low_most middle k)
 
-    end-was : (b : Bool) (s : ℕ) → s < n → end_of b w n s ≡ end_of b l n s
-    end-was true s h = u.before (n + s) (omega arith)
-    end-was false s h = u.before s (omega arith)
+    end_was : (b : Bool) (s : ℕ) → s < n → end_of b w n s ≡ end_of b l n s
+    end_was true s h = u.before (n + s) (omega arith)
+    end_was false s h = u.before s (omega arith)
 
     pub may_look : LightAsked w n depth
     may_look =
@@ -85,7 +85,7 @@ module _ {mv l first second : List ℕ} {n q a depth : ℕ} (p : SummedAsked mv 
                 room = omega (arith, u.same, p.ends.room);
                 in_first = p.ends.in_first;
                 in_second = p.ends.in_second;
-                small = λ b s h. rw (end-was b s h) (p.ends.small b s h);
+                small = λ b s h. rw (end_was b s h) (p.ends.small b s h);
               };
               limit = omega (arith, limit, within);
               room = omega (arith, p.weigh.load.room, p.weigh.deep, within);
@@ -126,8 +126,8 @@ module _ {mv l first second : List ℕ} {n q a depth : ℕ} (p : SummedAsked mv 
           end_same : (b : Bool) (s : ℕ) → s < n → summed_end mv first second w n q a depth b s ≡ summed_end mv first second l n q a depth b s
           end_same =
               end_from mv first second w n q a depth (start_gap l first second n) p.prepared.rates.lines.targets (λ b g. unit * end_of b l n g)
-              (λ b. held_of (read_phase b first second)) (gap_same _ _ _ _ _ _ n refl (end-was false) (end-was true))
-              (λ b g h. ap (λ (x : ℕ). unit * x) (end-was b g h)) (λ b g h. refl)
+              (λ b. held_of (read_phase b first second)) (gap_same _ _ _ _ _ _ n refl (end_was false) (end_was true))
+              (λ b g h. ap (λ (x : ℕ). unit * x) (end_was b g h)) (λ b g h. refl)
 
           pub is_summed : Summed mv first second n q a depth l y
           unfolding lower_end left_end

@@ -71,19 +71,19 @@ module _ {mv l first second : List ℕ} {n q t : ℕ} (p : UntilAsked mv l first
 
     -- starts that are near are the same
     module _ (e : leb (start_gap x first second n) most_gap ≡ true) where
-      first-same : (i : ℕ) → i < n → as_no (verdicts first i) ≡ as_yes (verdicts first i)
-      first-same i h = decided_same (verdicts first i) (first_decided x first second n e i h)
+      first_same : (i : ℕ) → i < n → as_no (verdicts first i) ≡ as_yes (verdicts first i)
+      first_same i h = decided_same (verdicts first i) (first_decided x first second n e i h)
 
-      second-same : (i : ℕ) → i < n → as_no (verdicts second i) ≡ as_yes (verdicts second i)
-      second-same i h = decided_same (verdicts second i) (second_decided x first second n e i h)
+      second_same : (i : ℕ) → i < n → as_no (verdicts second i) ≡ as_yes (verdicts second i)
+      second_same i h = decided_same (verdicts second i) (second_decided x first second n e i h)
 
       no_gap : start_gap x first second n ≡ 0
-      no_gap = near_none x first second n e (λ i h. end_is false i h ∙ rw (second-same i h) (sym (end_is true i h)))
+      no_gap = near_none x first second n e (λ i h. end_is false i h ∙ rw (second_same i h) (sym (end_is true i h)))
 
       values_same : (k g : ℕ) → g < n → value_of mv (length mv) q (low_phase first second) k g ≡ value_of mv (length mv) q (high_phase first second) k g
       values_same =
-          run_cong mv (length mv) n q p.prepared.rates.lines.targets _ _ _ _ (λ i h. rw (second-same i h) refl)
-          (λ i h. rw (first-same i h, second-same i h) refl)
+          run_cong mv (length mv) n q p.prepared.rates.lines.targets _ _ _ _ (λ i h. rw (second_same i h) refl)
+          (λ i h. rw (first_same i h, second_same i h) refl)
 
     pub is_until : {y : List ℕ} {r : ℕ} → Phased mv first second n q t x y r → Until mv first second n q t l y r
     is_until u =

@@ -6,7 +6,11 @@ pub check_formula-requires : goal.check_formula-requires
 check_formula-requires c = search sheet_ready
 
 pub returns-then-out_of_bytes : goal.returns-then-out_of_bytes
-returns-then-out_of_bytes c = let both = too_long _ c.out_of_bytes.ensures c.if-out_of_bytes.true _ c.refused.ensures in record { finished = both.0; found = both.1.0; counted = both.1.1 }
+returns-then-out_of_bytes c =
+    let ended = too_long _ c.out_of_bytes.ensures c.if-out_of_bytes.true _ c.refused.ensures in
+    record { finished = ended.0; found = ended.1.0; counted = ended.1.1 }
 
 pub returns-in-Refused : goal.returns-in-Refused
-returns-in-Refused c = let both = sheet_turned _ c.out_of_bytes.ensures c.if-out_of_bytes.false c.test_sheet-sheet.ensures _ c.in-Refused.is _ c.refused-in-Refused.ensures in record { finished = both.0; found = both.1.0; counted = both.1.1 }
+returns-in-Refused c =
+    let ended = sheet_turned _ c.out_of_bytes.ensures c.if-out_of_bytes.false c.test_sheet-sheet.ensures _ c.in-Refused.is _ c.refused-in-Refused.ensures in
+    record { finished = ended.0; found = ended.1.0; counted = ended.1.1 }

@@ -71,12 +71,12 @@ module _ (c : Chain) (r : Comparison) (p t : ℕ) (x y : Text) (lower upper : �
       record {
         lower_is = still_low;
         upper_is = still_high;
-        verdict_is = tells_one (least k.second s ≡ true) (v s) (marked b) told (rw marked_so (tells-mark b));
+        verdict_is = tells_one (least k.second s ≡ true) (v s) (marked b) told (rw marked_so (tells_mark b));
       }
     where
-      tells-mark : (d : Bool) → Tells (marked d) (as_no (marked d) ≡ true)
-      tells-mark true = refl
-      tells-mark false = false≢true
+      tells_mark : (d : Bool) → Tells (marked d) (as_no (marked d) ≡ true)
+      tells_mark true = refl
+      tells_mark false = false≢true
 
 -- `tt`, and `&` of a label and `!` of another
 always_row : (c : Chain) (lower upper : ℕ → ℕ) (v : ℕ → Verdict) → Reported c always lower upper v → (s : ℕ) → s < c.states

@@ -375,17 +375,17 @@ whole_found nothing f h = absurd (none-ne-some f h)
 whole_found (found a []) f h = ap (λ (y : Formula). found y []) (some-injective a f h)
 whole_found (found a (w ∷ ts)) f h = absurd (none-ne-some f h)
 
-append-nil : (l : List Text) → l ++ [] ≡ l
-append-nil [] = refl
-append-nil (x ∷ l) = ap (λ (y : List Text). x ∷ y) (append-nil l)
+append_nil : (l : List Text) → l ++ [] ≡ l
+append_nil [] = refl
+append_nil (x ∷ l) = ap (λ (y : List Text). x ∷ y) (append_nil l)
 
 pub read_if_spelled : (ts : List Text) (f : Formula) → Spells f ts → whole (read_state (length ts) ts) ≡ some f
 unfolding whole
 read_if_spelled ts f h =
     let e : read_state (length ts) (ts ++ []) ≡ found f [] = read_complete h (length ts) (omega arith) [] in
-    rw (rw (append-nil ts) at e) refl
+    rw (rw (append_nil ts) at e) refl
 
 pub spelled_if_read : (ts : List Text) (f : Formula) → whole (read_state (length ts) ts) ≡ some f → Spells f ts
 spelled_if_read ts f h =
     let x = read_sound (length ts) ts f [] (whole_found _ f h) in
-    rw (x.split ∙ append-nil x.tokens) x.spells
+    rw (x.split ∙ append_nil x.tokens) x.spells

@@ -70,23 +70,23 @@ pub record Common (P Q : Fraction → Type 0) : Type 0 where
 -- limits: In P says that from some depth, or pair of depths, on all quotients are P
 module _ (In : (Fraction → Type 0) → Type 0) (p : ℕ) where
   module _ (meet : (P Q : Fraction → Type 0) → In P → In Q → Common P Q) where
-    low-apart : LimitIs AtLeast p In → LimitIs Less p In → ⊥
-    low-apart h k =
+    low_apart : LimitIs AtLeast p In → LimitIs Less p In → ⊥
+    low_apart h k =
         let j : Common (λ y. Below (billionths p) (plus y (part (2 * k.m)))) (λ y. Below (plus y (part k.m)) (billionths p))
         = meet _ _ (h (2 * k.m) (omega (arith, k.from_one))) k.holds in
         omega (arith, j.is, j.left, j.right)
 
-    high-apart : LimitIs AtMost p In → LimitIs More p In → ⊥
-    high-apart h k =
+    high_apart : LimitIs AtMost p In → LimitIs More p In → ⊥
+    high_apart h k =
         let j : Common (λ y. Below y (plus (billionths p) (part (2 * k.m)))) (λ y. Below (plus (billionths p) (part k.m)) y)
         = meet _ _ (h (2 * k.m) (omega (arith, k.from_one))) k.holds in
         omega (arith, j.is, j.left, j.right)
 
     pub limit_apart : (r : Comparison) → LimitIs r p In → LimitIs (opposite r) p In → ⊥
-    limit_apart Less h k = low-apart k h
-    limit_apart AtMost h k = high-apart h k
-    limit_apart AtLeast h k = low-apart h k
-    limit_apart More h k = high-apart k h
+    limit_apart Less h k = low_apart k h
+    limit_apart AtMost h k = high_apart h k
+    limit_apart AtLeast h k = low_apart h k
+    limit_apart More h k = high_apart k h
 
   -- quotients between two ends from some depth on
   module _ (lower upper : ℕ)

@@ -19,9 +19,9 @@ use Rattle.csl.proofs.Laws.Sum.{sum_less}
 use Rattle.csl.proofs.Laws.Quotient.{bit_le, bit_rises}
 use Rattle.csl.specs.Laws.Search.{SomeBelow, any_below, grown, leads_in}
 
-or-true : (a b : Bool) → (a || b) ≡ true → (a ≡ true) ⊎ (b ≡ true)
-or-true true b h = inl refl
-or-true false b h = inr h
+or_true : (a b : Bool) → (a || b) ≡ true → (a ≡ true) ⊎ (b ≡ true)
+or_true true b h = inl refl
+or_true false b h = inr h
 
 or_left : (a b : Bool) → a ≡ true → (a || b) ≡ true
 or_left a b h = rw h refl
@@ -35,7 +35,7 @@ unfolding any_below
 any_found p zero h = absurd (false≢true h)
 any_found p (suc n) h =
     ⊎_elim (λ k. let b : SomeBelow p n = any_found p n k in record { place = b.place; under = omega (arith, b.under); holds = b.holds })
-    (λ k. record { place = n; under = omega arith; holds = k }) (or-true (any_below p n) (p n) h)
+    (λ k. record { place = n; under = omega arith; holds = k }) (or_true (any_below p n) (p n) h)
 
 any_is : (p : ℕ → Bool) (n i : ℕ) → i < n → p i ≡ true → any_below p n ≡ true
 unfolding any_below
@@ -70,7 +70,7 @@ module _ (c : Chain) (x y : ℕ → Bool) where
 
   grown_by : (p : ℕ → Bool) (s : ℕ) → grown c x y p s ≡ true → (y s ≡ true) ⊎ Steps p s
   unfolding grown
-  grown_by p s h = ⊎_elim inl (λ k. inr (steps k)) (or-true (y s) _ h)
+  grown_by p s h = ⊎_elim inl (λ k. inr (steps k)) (or_true (y s) _ h)
     where
       steps : (x s && any_below (λ t. ltb 0 (c.rate s t) && p t) c.states) ≡ true → Steps p s
       steps k =
@@ -136,9 +136,9 @@ module _ (c : Chain) (x y : ℕ → Bool) where
   grows_or_stays : (k : ℕ) → (count k < count (suc k)) ⊎ Within (suc k) k
   grows_or_stays k = go (ltb (count k) (count (suc k))) refl
     where
-      no-new : count (suc k) ≤ count k → (s : ℕ) → s < c.states → leads_in c x y (suc k) s ≡ true → (b : Bool) → leads_in c x y k s ≡ b → b ≡ true
-      no-new h s l e true f = refl
-      no-new h s l e false f =
+      no_new : count (suc k) ≤ count k → (s : ℕ) → s < c.states → leads_in c x y (suc k) s ≡ true → (b : Bool) → leads_in c x y k s ≡ b → b ≡ true
+      no_new h s l e true f = refl
+      no_new h s l e false f =
           let d : bit (leads_in c x y k s) < bit (leads_in c x y (suc k) s) = rw (e, f) (omega arith) in
           absurd (omega (
             arith,
@@ -149,7 +149,7 @@ module _ (c : Chain) (x y : ℕ → Bool) where
 
       go : (b : Bool) → ltb (count k) (count (suc k)) ≡ b → (count k < count (suc k)) ⊎ Within (suc k) k
       go true e = inl (ltb-true _ _ e)
-      go false e = inr λ s l h. no-new (ltb-false _ _ e) s l h (leads_in c x y k s) refl
+      go false e = inr λ s l h. no_new (ltb-false _ _ e) s l h (leads_in c x y k s) refl
 
   record Stable (k : ℕ) : Type 0 where
     pub round : ℕ

@@ -1,4 +1,4 @@
--- Definitions that the laws of this name in proofs/ speak of, and contracts too. Assumes nothing.
+-- Whether a verdict is decided, and whether those of all states are. Assumes nothing.
 use Rattle.std.specs.Prelude.{Bool, true, false, ◌&&◌, ◌⊎◌, ℕ, zero, suc}
 use Rattle.csl.specs.Verdicts.{Verdict, No, Yes, Undecided}
 

@@ -1,4 +1,4 @@
--- Definitions that the laws of this name in proofs/ speak of, and contracts too. Assumes nothing.
+-- The six lent buffers beside the marks: whether one is too short, and buffers that agree in them. Assumes nothing.
 use Rattle.std.specs.Prelude.{◌≡◌, Bool, List, [], ◌∷◌, ℕ, ltb}
 use Rattle.csl.specs.Text.{any}
 use Rattle.csl.specs.Lent.{Buffers, needed, room}

@@ -1,4 +1,4 @@
--- Definitions that the laws of this name in proofs/ speak of, and contracts too. Assumes nothing.
+-- The verdict of a `P` where the moves decide, and where they do or do not. Assumes nothing.
 use Rattle.std.specs.Prelude.{Bool, true, false, cond, ℕ, eqb}
 use Rattle.csl.specs.Limits.{billion}
 use Rattle.csl.specs.Formula.{Comparison, Less, AtMost, AtLeast, More}

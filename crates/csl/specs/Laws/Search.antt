@@ -1,4 +1,4 @@
--- Definitions that the laws of this name in proofs/ speak of, and contracts too. Assumes nothing.
+-- The states that lead to a second operand in so many moves. Assumes nothing.
 use Rattle.std.specs.Prelude.{◌≡◌, Bool, false, ◌&&◌, ◌||◌}
 use Rattle.std.proofs.Math.Bool.{true}
 use Prim.Native.Nat.{ℕ, zero, suc, ◌<◌}

@@ -9,7 +9,9 @@ use lib.Seq.{length-take-le}
 use Rattle.formula.proofs.reading.read.Goals as goal
 
 pub returns-then-not-e : goal.returns-then-not-e
-returns-then-not-e c = let both = read_none _ _ _ c.size_text-e.ensures c.if-not-e.true in record { value = both.0; within = both.1 }
+returns-then-not-e c =
+    let both = read_none _ _ _ c.size_text-e.ensures c.if-not-e.true in
+    record { value = both.0; within = both.1 }
 
 pub slice_bounds-lay-end : goal.slice_bounds-lay-end
 slice_bounds-lay-end c = sym (length-take-le _ _ (omega arith))
@@ -19,9 +21,11 @@ lay-row-requires c = ltb-false _ _ (neither _ _ c.if-e.false).0
 
 pub returns-then-e : goal.returns-then-e
 returns-then-e c =
-    let both = read_many _ _ _ c.size_text-e.ensures c.if-not-e.false c.if-e.true in record { value = both.0; within = both.1 }
+    let both = read_many _ _ _ c.size_text-e.ensures c.if-not-e.false c.if-e.true in
+    record { value = both.0; within = both.1 }
 
 pub returns : goal.returns
 returns c =
     let both = read_few _ _ _ c.size_text-e.ensures c.if-not-e.false _ _ _ c.if-e.false refl c.span-n.ensures.value
-    c.lay-row.ensures in record { value = both.0; within = both.1 }
+    c.lay-row.ensures in
+    record { value = both.0; within = both.1 }

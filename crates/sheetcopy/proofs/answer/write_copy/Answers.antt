@@ -7,7 +7,11 @@ pub write_refusal-requires : goal.write_refusal-requires
 write_refusal-requires c = search (rules, refusal_room)
 
 pub returns-in-Length : goal.returns-in-Length
-returns-in-Length c = let both = copy_printed _ _ _ (search rules) c.copy.result _ c.copy.ensures _ c.in-Length.is in record { prefix_len = both.0; written = both.1 }
+returns-in-Length c =
+    let both = copy_printed _ _ _ (search rules) c.copy.result _ c.copy.ensures _ c.in-Length.is in
+    record { prefix_len = both.0; written = both.1 }
 
 pub returns-in-Refused : goal.returns-in-Refused
-returns-in-Refused c = let both = refusal_printed _ _ _ (search rules) c.copy.result _ c.copy.ensures _ c.in-Refused.is c.write_refusal.ensures in record { prefix_len = both.0; written = both.1 }
+returns-in-Refused c =
+    let both = refusal_printed _ _ _ (search rules) c.copy.result _ c.copy.ensures _ c.in-Refused.is c.write_refusal.ensures in
+    record { prefix_len = both.0; written = both.1 }

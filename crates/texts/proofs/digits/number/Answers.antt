@@ -16,7 +16,8 @@ pub returns-then-not-is_digit : goal.returns-then-not-is_digit
 returns-then-not-is_digit c =
     let i = c.loop-used.invariant.1 in
     let e = sym c.is_digit.ensures ∙ c.if-not-is_digit.true in
-    let both = number_ends _ i e (omega arith) (omega arith) (omega arith) c.settle.ensures in record { value = both.0; within = both.1 }
+    let both = number_ends _ i e (omega arith) (omega arith) (omega arith) c.settle.ensures in
+    record { value = both.0; within = both.1 }
 
 pub overflow_mul-value : goal.overflow_mul-value
 overflow_mul-value c = omega (arith, fits c.loop-used.invariant.1 10 (omega arith))
@@ -41,4 +42,5 @@ pub returns : goal.returns
 returns c =
     let i = c.loop-used.invariant.1 in
     let e = sym c.digit_at.ensures ∙ c.if-digit_at.false in
-    let both = number_ends _ i e (omega arith) (omega arith) (omega arith) c.settle-2.ensures in record { value = both.0; within = both.1 }
+    let both = number_ends _ i e (omega arith) (omega arith) (omega arith) c.settle-2.ensures in
+    record { value = both.0; within = both.1 }
