@@ -151,7 +151,7 @@ def local(text, own):
     inside = {name for group in imports(text, own) for name in group}
     names = {found.group(3) for found in DECLARED.finditer(loud(text)) if "pub" not in found.group(2)} - inside
     there = set(WORD.findall(loud(text)))
-    turned = {name: snake(name) for name in names if snake(name) not in there}
+    turned = {name: snake(name) + "_lem" * (snake(name) in there) for name in names if snake(name) != name}
     return spelled(text, turned, lambda *_: True)
 
 

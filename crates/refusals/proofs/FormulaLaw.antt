@@ -68,14 +68,14 @@ module _ (e : Reading) (names q : ℕ) where
             load_tested,
           )
 
-      by-nodes : {r : Tested} → r ≡ tested_by (by_nodes names q e.nodes) → Answered r
-      by-nodes h ns none is count = unread ns is
-      by-nodes h ns (some f) is count = h ∙ ap tested_by (sym (left ns f is count))
+      by_nodes_lem : {r : Tested} → r ≡ tested_by (by_nodes names q e.nodes) → Answered r
+      by_nodes_lem h ns none is count = unread ns is
+      by_nodes_lem h ns (some f) is count = h ∙ ap tested_by (sym (left ns f is count))
 
       module _ {l : Bool} (labels : l ≡ all_passed (Labels names) e.nodes) where
         pub at_12 : not l ≡ true → Answered (Refused 12)
         unfolding first_of
-        at_12 h = by-nodes (rw (sym labels ∙ not-true _ h))
+        at_12 h = by_nodes_lem (rw (sym labels ∙ not-true _ h))
 
         module _ (t : not l ≡ false) {m : Bool} (limits : m ≡ all_passed Limits e.nodes) where
           labels_pass : all_passed (Labels names) e.nodes ≡ true
@@ -83,7 +83,7 @@ module _ (e : Reading) (names q : ℕ) where
 
           pub at_13 : not m ≡ true → Answered (Refused 13)
           unfolding first_of
-          at_13 h = by-nodes (rw (labels_pass, sym limits ∙ not-true _ h))
+          at_13 h = by_nodes_lem (rw (labels_pass, sym limits ∙ not-true _ h))
 
           module _ (u : not m ≡ false) {n : Bool} (order : n ≡ all_passed Order e.nodes) where
             limits_pass : all_passed Limits e.nodes ≡ true
@@ -91,7 +91,7 @@ module _ (e : Reading) (names q : ℕ) where
 
             pub at_16 : not n ≡ true → Answered (Refused 16)
             unfolding first_of
-            at_16 h = by-nodes (rw (labels_pass, limits_pass, sym order ∙ not-true _ h))
+            at_16 h = by_nodes_lem (rw (labels_pass, limits_pass, sym order ∙ not-true _ h))
 
             module _ (v : not n ≡ false) {k : Bool} (load : k ≡ all_passed (Load q) e.nodes) where
               order_passes : all_passed Order e.nodes ≡ true
@@ -99,11 +99,11 @@ module _ (e : Reading) (names q : ℕ) where
 
               pub at_14 : not k ≡ true → Answered (Refused 14)
               unfolding first_of
-              at_14 h = by-nodes (rw (labels_pass, limits_pass, order_passes, sym load ∙ not-true _ h))
+              at_14 h = by_nodes_lem (rw (labels_pass, limits_pass, order_passes, sym load ∙ not-true _ h))
 
               pub at_end : not k ≡ false → Answered Passed
               unfolding first_of
-              at_end h = by-nodes (rw (labels_pass, limits_pass, order_passes, sym load ∙ not-false _ h))
+              at_end h = by_nodes_lem (rw (labels_pass, limits_pass, order_passes, sym load ∙ not-false _ h))
 
 -- the answer of what was read of a text, with its nodes
 pub formula_tested : (names : List Text) (o : Option Formula) (q : ℕ) {e : Reading} {count : ℕ} {r : Tested} → e ≡ reading_of names o → count ≡ length names

@@ -132,9 +132,9 @@ module _ (j : Job) (before after : Buffers (List ℕ)) (a : Answer) (n : ℕ) (o
         (λ s b. rw upper_is (written_at_lem t.upper n before.upper s b))
         (λ s b. rw bytes_are (ap verdict_at (written_at_lem (λ k. verdict_byte (t.verdict k)) n before.verdicts s b) ∙ byte_read (t.verdict s))))
 
-    report-text : TextFor j a old new r
+    report_text_lem : TextFor j a old new r
     unfolding Prints
-    report-text =
+    report_text_lem =
         fitting_text j n a after.lower after.upper after.verdicts after.order old new r
         (report_text n t.lower t.upper (depth_of (job_chain j) (job_formula j)) t.verdict) lines_are all_there
         (omega (arith, report_few n t.lower t.upper (depth_of (job_chain j) (job_formula j)) t.verdict few in_range (depth_few j (passed j e))))
@@ -150,7 +150,7 @@ module _ (j : Job) (before after : Buffers (List ℕ)) (a : Answer) (n : ℕ) (o
       go none e =
           let q = none_short j (passed j e) (lengths before) lent.lowers lent.uppers lent.bytes lent.places lent.words lent.vectors lent.marks in
           let o = accepted_by_all j (lengths before) e q in
-          report-text e (s ∙ ap states_in o) lent (rw o at f)
+          report_text_lem e (s ∙ ap states_in o) lent (rw o at f)
 
 -- what is answered: the text's length and the number
 pub text_answered : {j : Job} {a : Answer} {old new : List ℕ} {r : Rendered} (w : Written) → TextFor j a old new r → w.length ≡ length_of r
