@@ -23,8 +23,7 @@ from reckoning.verdict import NO, UNDECIDED, YES
 from tests.places import ROOT
 
 HEAD = f"""-- Jobs against the definitions, by computation. Assumes nothing.
-use Rattle.std.specs.Prelude.{{◌≡◌, refl, cond, ℕ, eqb, List, [], ◌∷◌}}
-use Rattle.std.proofs.Math.Option.{{Option, some, none}}
+use Rattle.std.specs.Prelude.{{◌≡◌, refl, cond, ℕ, eqb, List, [], ◌∷◌, Option, Some, None}}
 use Rattle.csl.specs.Text.{{bytes}}
 use Rattle.csl.specs.Formula.{{always, label, negated, both, chance, until, between, next_move, Less, AtMost, AtLeast, More}}
 use Rattle.csl.specs.Lent.{{Buffers, needed}}
@@ -84,7 +83,7 @@ def equation(number, job):
     def claim(name, statement):
         lines.extend([f"{name}{number} : {statement}", "unfolding computing", f"{name}{number} = refl", ""])
 
-    answer = f"some {job['refused']}" if "refused" in job else "none"
+    answer = f"Some {job['refused']}" if "refused" in job else "None"
     claim("refusal-of-", f"refusal job{number} {buffers(job.get('lent'))} ≡ {answer}")
     if "refused" not in job:
         claim("formula-of-", f"job_formula job{number} ≡ {term(f.read_formula(job['formula']))}")
@@ -99,7 +98,7 @@ def copy_equations(number, moves, labels, room=SHEET_BYTES, answer=None):
     """The equations for a clean copy: the copy or the number that is given, by the second reckoning where none is."""
     answer = copied(moves, labels, room) if answer is None else answer
     texts = f"(bytes {quoted(moves)}) (bytes {quoted(labels)})"
-    lines = [f"copy-refusal-of-{number} : copy_refusal {texts} {room} ≡ {f'some {answer}' if isinstance(answer, int) else 'none'}",
+    lines = [f"copy-refusal-of-{number} : copy_refusal {texts} {room} ≡ {f'Some {answer}' if isinstance(answer, int) else 'None'}",
              "unfolding computing", f"copy-refusal-of-{number} = refl", ""]
     if not isinstance(answer, int):
         lines += [f"copy-of-{number} : copy_text {texts} ≡ bytes {quoted(answer)}", "unfolding computing", f"copy-of-{number} = refl", ""]

@@ -1,7 +1,6 @@
 -- What a formula has that passed its tests over a sheet. Assumes nothing.
-use Rattle.std.specs.Prelude.{◌≡◌, refl, true, false, List, ℕ, ◌≤◌, ltb}
+use Rattle.std.specs.Prelude.{◌≡◌, refl, true, false, List, ℕ, ◌≤◌, ltb, Option, None, Some}
 use Rattle.std.proofs.Common.{true≢false, ltb-false}
-use Rattle.std.proofs.Math.Option.{Option, none, some}
 use Rattle.std.proofs.lemmas.Bool.{not-false}
 use Rattle.csl.specs.Text.{Text, among}
 use Rattle.csl.specs.Limits.{most_nodes, most_levels}
@@ -20,15 +19,15 @@ pub record Fitting (names : List Text) (q : ℕ) (f : Formula) : Type 0 where
 
 -- what a text spells that passed
 pub record FormulaPassed (names : List Text) (q : ℕ) (o : Option Formula) : Type 0 where
-  pub spelled : o ≡ some (formula_from o)
+  pub spelled : o ≡ Some (formula_from o)
   pub fitting : Fitting names q (formula_from o)
 
-spells : (o : Option Formula) → is_missing o ≡ false → o ≡ some (formula_from o)
+spells : (o : Option Formula) → is_missing o ≡ false → o ≡ Some (formula_from o)
 unfolding is_missing formula_from
-spells none h = absurd (true≢false h)
-spells (some f) h = refl
+spells None h = absurd (true≢false h)
+spells (Some f) h = refl
 
-pub formula_passed : (names : List Text) (q : ℕ) (o : Option Formula) → first_of (formula_tests names q o) ≡ none → FormulaPassed names q o
+pub formula_passed : (names : List Text) (q : ℕ) (o : Option Formula) → first_of (formula_tests names q o) ≡ None → FormulaPassed names q o
 unfolding NoneHolds formula_tests large_formula strange_label wrong_bound wrong_times high_load
 formula_passed names q o h =
     let n : NoneHolds (formula_tests names q o) = first_none (formula_tests names q o) h in

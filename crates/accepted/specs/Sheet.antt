@@ -1,9 +1,8 @@
 -- What a sheet has whose two texts passed their tests: of the texts, and of the value that goes on from them. Assumes nothing.
-use Rattle.std.specs.Prelude.{◌≡◌, true, false, not, ◌&&◌, ◌||◌, ℕ, ◌≤◌, length}
+use Rattle.std.specs.Prelude.{◌≡◌, true, false, not, ◌&&◌, ◌||◌, ℕ, ◌≤◌, length, None}
 use Rattle.std.proofs.Math.Path.{sym}
 use Rattle.std.proofs.Math.Bool.{Bool, and-eq-true_iff}
 use mathlib.Core.List.{[], head_d}
-use Rattle.std.proofs.Math.Option.{none}
 use Rattle.std.proofs.Common.{arith}
 use Rattle.std.proofs.Math.Dec.{leb, ltb, eqb}
 use borrow.Author.Tests.{leb-true, ltb-false, eqb-false, not-false}
@@ -91,7 +90,7 @@ module _ (moves labels : Text) (n : NoneHolds (sheet_tests moves labels)) where
         moving = moving_tested (moves_of moves) n.1.1.1.1.1.1.0;
       }
 
-pub sheet_passed : (moves labels : Text) → first_of (sheet_tests moves labels) ≡ none → SheetPassed moves labels
+pub sheet_passed : (moves labels : Text) → first_of (sheet_tests moves labels) ≡ None → SheetPassed moves labels
 unfolding NoneHolds sheet_tests
 sheet_passed moves labels h =
     let n : NoneHolds (sheet_tests moves labels) = first_none (sheet_tests moves labels) h in

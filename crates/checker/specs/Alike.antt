@@ -1,8 +1,7 @@
 -- Runs over moves texts that say the same chain leave the same report, byte for byte. Assumes nothing.
-use Rattle.std.specs.Prelude.{◌≡◌, List, ℕ, length}
+use Rattle.std.specs.Prelude.{◌≡◌, List, ℕ, length, None}
 use Rattle.std.proofs.Math.Path.{refl, ap, sym}
 use Rattle.std.proofs.Common.{◌∙◌}
-use Rattle.std.proofs.Math.Option.{none}
 use Rattle.csl.specs.Text.{Text}
 use Rattle.csl.specs.Moves.{moves_of}
 use Rattle.csl.specs.Labels.{states_of}
@@ -31,18 +30,18 @@ pub record SameReport (x y : Buffers (List ℕ)) : Type 0 where
   pub verdicts : x.verdicts ≡ y.verdicts
   pub order : x.order ≡ y.order
 
-module _ (labels a b : Text) (passed-a : first_of (sheet_tests a labels) ≡ none) (passed_b : first_of (sheet_tests b labels) ≡ none)
+module _ (labels a b : Text) (passed-a : first_of (sheet_tests a labels) ≡ None) (passed_b : first_of (sheet_tests b labels) ≡ None)
     (h : EqualRates labels a b) (formula : Text) (before : Buffers (List ℕ))
-    (accepted-a : refusal (job a labels formula) (lengths before) ≡ none) (accepted-b : refusal (job b labels formula) (lengths before) ≡ none) where
+    (accepted-a : refusal (job a labels formula) (lengths before) ≡ None) (accepted-b : refusal (job b labels formula) (lengths before) ≡ None) where
   abbrev outcome_of : Text → Chain → Outcome
   outcome_of m c = accepted c (job_formula (job m labels formula)) (top_rate c) (depth_of c (job_formula (job m labels formula)))
 
-  accepted_as : (m : Text) → refusal (job m labels formula) (lengths before) ≡ none
+  accepted_as : (m : Text) → refusal (job m labels formula) (lengths before) ≡ None
       → outcome (job m labels formula) (lengths before) ≡ outcome_of m (chain_in m labels)
   unfolding outcome outcome_by
   accepted_as m e = ap (outcome_by (job m labels formula)) e
 
-  left : (m : Text) (c : Chain) → refusal (job m labels formula) (lengths before) ≡ none → chain_in m labels ≡ c
+  left : (m : Text) (c : Chain) → refusal (job m labels formula) (lengths before) ≡ None → chain_in m labels ≡ c
       → leaves (job m labels formula) before ≡ left_by (states_of labels) (length (moves_of m)) (outcome_of m c) before
   unfolding leaves
   left m c e k =

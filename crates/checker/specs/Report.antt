@@ -19,7 +19,6 @@ use Rattle.vectors.specs.Places.{vector_length}
 use Rattle.verdict_rows.specs.Row.{EndsIn, rows_length}
 use Rattle.decide.specs.Asked.{NodeFits}
 use Rattle.results.specs.Report.{EachFilled}
-use Rattle.refusals.specs.Sheet.{dimensions_of}
 use Rattle.refusals.specs.declared.sheet_tests.Dimensions.{Dimensions}
 use Rattle.checker.specs.Room.{HasRoom}
 
@@ -31,10 +30,9 @@ chain_in moves labels = chain_of (sheet_of moves labels)
 abbrev pub formula_in : Text → Nodes → Formula
 formula_in labels x = formula_at (names_of labels) most_levels x.nodes (x.count - 1)
 
--- a sheet that passed its tests and has these dimensions, and a formula that fits it, laid out in nodes
-pub record Ready (moves labels : Text) (d : Dimensions) (x : Nodes) : Type 0 where
+-- a formula that fits a sheet that passed its tests, laid out in nodes
+pub record Ready (moves labels : Text) (x : Nodes) : Type 0 where
   pub passed : SheetPassed moves labels
-  pub is : d ≡ dimensions_of moves labels
   pub fits : (k : ℕ) → k < x.count → NodeFits (names_of labels) (top_rate (chain_in moves labels)) k (kind_at x.nodes k)
   pub few_levels : levels (formula_in labels x) ≤ most_levels
   pub few_nodes : x.count ≤ most_nodes
@@ -42,7 +40,7 @@ pub record Ready (moves labels : Text) (d : Dimensions) (x : Nodes) : Type 0 whe
 
 -- and words and mark bytes enough
 pub record DecideAll (moves labels : Text) (d : Dimensions) (x : Nodes) (words vectors marks : List ℕ) : Type 0 where
-  pub ready : Ready moves labels d x
+  pub ready : Ready moves labels x
   pub in_words : move_places * d.moves ≤ length words
   pub in_vectors : vector_length d.states ≤ length vectors
   pub in_marks : rows_length d.states x.count ≤ length marks
@@ -77,9 +75,9 @@ pub record Cleared (n m k : ℕ) (words₀ words vectors₀ vectors marks₀ mar
   pub in_vectors : vectors ≡ written (replicate (vector_length n) 0) vectors₀
   pub in_marks : marks ≡ written (replicate (rows_length n k) 0) marks₀
 
--- a sheet and a formula as above, and lent buffers that are long enough
+-- a formula as above, and lent buffers that are long enough
 pub record ReportAsked (moves labels : Text) (d : Dimensions) (x : Nodes) (before : Buffers (List ℕ)) : Type 0 where
-  pub ready : Ready moves labels d x
+  pub ready : Ready moves labels x
   pub room : HasRoom d.states d.moves x.count (lengths before)
 
 -- the depth, and the report in the buffers

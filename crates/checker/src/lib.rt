@@ -4,50 +4,24 @@
 
 mod passed;
 
-ghost use Rattle.std.specs.Prelude.{◌≡◌};
+ghost use Rattle.std.specs.Prelude.{◌≡◌, false, None};
 ghost use Rattle.csl.specs.Lent.{lengths};
-ghost use Rattle.csl.specs.Refusal.{outcome};
+ghost use Rattle.csl.specs.Limits.{formula_bytes};
+ghost use Rattle.csl.specs.Refusal.{out_of_bytes, sheet_tests, first_of, outcome};
 ghost use Rattle.csl.specs.Finished.{Finished};
-ghost use Rattle.verdicts.specs.Paper.{answer_of};
+ghost use Rattle.verdicts.specs.Answer.{answer_of, reported_states};
 ghost use Rattle.checker.specs.Job.{job, buffers, states_in};
 ghost use Rattle.checker.specs.Leaves.{leaves};
-ghost use Rattle.checker.specs.Checked.{turned_back, accepted_over, SheetReady};
+ghost use Rattle.checker.specs.Checked.{Ended};
 
-use refusals::{Dimensions, Lengths, Tested};
-use verdicts::Answer;
+use refusals::Lengths;
+use sheet_words::Sheet;
+use verdicts::{Accepted, Refusal};
 
-// The answer to a job, and how many states a report has; none where the job is refused.
-#[derive(Clone, Copy)]
-pub struct Checked {
-    pub answer: Answer,
-    pub states: usize,
-}
-
-// A job that is turned back.
-fn refused(number: u64) -> Checked
-    ensures { result ≡ turned_back number }
-{
-    Checked {
-        answer: Answer::Refused(number),
-        states: 0,
-    }
-}
-
-// A job that is accepted, with its depth, over so many states.
-fn accepted(depth: u64, states: usize) -> Checked
-    ensures { result ≡ accepted_over states depth }
-{
-    Checked {
-        answer: Answer::Accepted(depth),
-        states: states,
-    }
-}
-
-// Checks a job whose sheet passed its tests: those of its formula and of the lent lengths, then the report.
+// Checks a job whose sheet passed its tests: those of its formula and of the lent lengths, then the report. The lent buffers stay apart: of a struct
+// of them a clause could say what is left only as `exit.0`, `exit.1.0` and so on.
 fn check_formula(
-    sheet: Dimensions,
-    moves: &[u8],
-    labels: &[u8],
+    sheet: Sheet,
     formula: &[u8],
     lower: &mut [u32],
     upper: &mut [u32],
@@ -56,51 +30,39 @@ fn check_formula(
     words: &mut [u64],
     vectors: &mut [u64],
     marks: &mut [u8],
-) -> Checked
-    requires { SheetReady (job moves.now labels.now formula.now) sheet }
-    ensures finished { Finished
-        (job moves.now labels.now formula.now)
+) -> Result<Accepted, Refusal>
+    requires bytes { out_of_bytes formula_bytes formula.now ≡ false }
+    requires passed { first_of (sheet_tests sheet.moves.now sheet.labels.now) ≡ None }
+    ensures { Ended
+        (job sheet.entry.moves.now sheet.entry.labels.now formula.now)
         (buffers lower.old upper.old verdicts.old order.old
         words.old vectors.old marks.old)
-        (answer_of result.answer)
+        result
         (buffers lower.new upper.new verdicts.new order.new
         words.new vectors.new marks.new) }
-    ensures found { buffers lower.new upper.new verdicts.new order.new
-        words.new vectors.new marks.new
-        ≡ leaves (job moves.now labels.now formula.now)
-        (buffers lower.old upper.old verdicts.old order.old
-        words.old vectors.old marks.old) }
-    ensures counted { result.states ≡ states_in (outcome
-        (job moves.now labels.now formula.now)
-        (lengths
-        (buffers lower.old upper.old verdicts.old order.old
-        words.old vectors.old marks.old))) }
 {
-    let names = labels::names_part(labels, sheet.first);
-    let read = refusals::test_formula(formula, names, sheet.names, sheet.q);
-    let tested = read.tested;
-    let nodes = read.nodes;
-    match tested {
-        Tested::Refused(number) => refused(number),
-        Tested::Passed => {
-            let lent = Lengths {
-                lower: lower.len(),
-                upper: upper.len(),
-                verdicts: verdicts.len(),
-                order: order.len(),
-                moves: words.len(),
-                vectors: vectors.len(),
-                marks: marks.len(),
-            };
-            if refusals::too_short(lent, sheet, nodes.count) {
-                return refused(15);
-            }
-            let depth = passed::report(
-                sheet, nodes, moves, labels, lower, upper, verdicts, order, words, vectors, marks,
-            );
-            accepted(depth, sheet.states)
-        }
+    let has = sheet.has;
+    let names = labels::names_part(sheet.labels, has.first);
+    let nodes = refusals::test_formula(formula, names, has.names, has.q)?;
+    let lent = Lengths {
+        lower: lower.len(),
+        upper: upper.len(),
+        verdicts: verdicts.len(),
+        order: order.len(),
+        moves: words.len(),
+        vectors: vectors.len(),
+        marks: marks.len(),
+    };
+    if refusals::too_short(lent, has, nodes.count) {
+        return Err(Refusal::ShortBuffer);
     }
+    let depth = passed::report(
+        sheet, &nodes, lower, upper, verdicts, order, words, vectors, marks,
+    );
+    Ok(Accepted {
+        depth,
+        states: has.states,
+    })
 }
 
 // Checks a job. With n states and m move lines the caller lends n lower and upper numbers, verdict bytes and numbers for the order, two move
@@ -122,12 +84,12 @@ pub fn check(
     words: &mut [u64],
     vectors: &mut [u64],
     marks: &mut [u8],
-) -> Checked
+) -> Result<Accepted, Refusal>
     ensures finished { Finished
         (job moves.now labels.now formula.now)
         (buffers lower.old upper.old verdicts.old order.old
         words.old vectors.old marks.old)
-        (answer_of result.answer)
+        (answer_of result)
         (buffers lower.new upper.new verdicts.new order.new
         words.new vectors.new marks.new) }
     ensures found { buffers lower.new upper.new verdicts.new order.new
@@ -135,31 +97,18 @@ pub fn check(
         ≡ leaves (job moves.now labels.now formula.now)
         (buffers lower.old upper.old verdicts.old order.old
         words.old vectors.old marks.old) }
-    ensures counted { result.states ≡ states_in (outcome
+    ensures counted { reported_states result ≡ states_in (outcome
         (job moves.now labels.now formula.now)
         (lengths
         (buffers lower.old upper.old verdicts.old order.old
         words.old vectors.old marks.old))) }
 {
     if refusals::out_of_bytes(formula, limits::FORMULA_BYTES) {
-        return refused(1);
+        return Err(Refusal::OutOfBytes);
     }
-    let sheet = refusals::test_sheet(moves, labels);
-    let tested = sheet.tested;
-    match tested {
-        Tested::Refused(number) => refused(number),
-        Tested::Passed => check_formula(
-            sheet.sheet,
-            moves,
-            labels,
-            formula,
-            lower,
-            upper,
-            verdicts,
-            order,
-            words,
-            vectors,
-            marks,
-        ),
-    }
+    let has = refusals::test_sheet(moves, labels)?;
+    let sheet = Sheet { moves, labels, has };
+    check_formula(
+        sheet, formula, lower, upper, verdicts, order, words, vectors, marks,
+    )
 }

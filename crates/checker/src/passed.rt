@@ -2,41 +2,44 @@
 ghost use Rattle.checker.specs.Job.{buffers};
 ghost use Rattle.checker.specs.Report.{DecideAll, Decided, ClearAsked, Cleared, ReportAsked, ReportLeft};
 
-use formula::{Nodes, Test};
-use refusals::Dimensions;
+use decide::LaidSheet;
+use formula::Nodes;
+use sheet_words::Sheet;
 
 // Stores the sheet, with the index of its moves if a node may need a search, and decides the formula over it: its report in the first mark bytes and vector words, and its depth.
 fn decide_all(
-    sheet: Dimensions,
-    nodes: Nodes,
-    moves: &[u8],
-    labels: &[u8],
+    sheet: Sheet,
+    nodes: &Nodes,
     words: &mut [u64],
     vectors: &mut [u64],
     marks: &mut [u8],
 ) -> usize
-    requires { DecideAll moves.now labels.now sheet nodes words.old vectors.old marks.old }
-    ensures { Decided moves.now labels.now nodes
+    requires { DecideAll sheet.moves.now sheet.labels.now sheet.has nodes.now words.old vectors.old marks.old }
+    ensures { Decided sheet.entry.moves.now sheet.entry.labels.now nodes.now
         words.old words.new vectors.old vectors.new marks.old marks.new result }
 {
-    let n = sheet.states;
-    let m = sheet.moves;
+    let n = sheet.has.states;
+    let m = sheet.has.moves;
     let root = nodes.count - 1;
     let bytes = verdict_rows::length(n, nodes.count);
-    let searches = !formula::all_pass(nodes, Test::NoSearch);
-    sheet_words::store(moves, labels, sheet, words, vectors, searches);
+    let searches = !nodes.no_search();
+    sheet_words::store(sheet, words, vectors, searches);
     verdict_rows::clear(marks, bytes);
-    let laid = &words[..];
+    // Shared as a whole first: of a lent `&mut` the borrow checker covers no part with a start.
+    let stored = &words[..];
+    let laid = LaidSheet {
+        moves: &stored[..m],
+        index: &stored[m..m + m],
+        n,
+        q: sheet.has.q,
+    };
     decide::decide(
+        laid,
         nodes,
         root,
         limits::MOST_LEVELS,
-        &laid[..m],
-        &laid[m..m + m],
         vectors,
         &mut marks[..bytes],
-        n,
-        sheet.q,
     )
 }
 
@@ -60,12 +63,11 @@ fn clear_all(
     verdict_rows::clear(marks, bytes);
 }
 
-// Writes the report into the result buffers, leaves zeros in the other lent buffers, and answers the depth.
+// Writes the report into the result buffers, leaves zeros in the other lent buffers, and answers the depth. The lent buffers stay apart here as in
+// `check_formula`.
 pub fn report(
-    sheet: Dimensions,
-    nodes: Nodes,
-    moves: &[u8],
-    labels: &[u8],
+    sheet: Sheet,
+    nodes: &Nodes,
     lower: &mut [u32],
     upper: &mut [u32],
     verdicts: &mut [u8],
@@ -74,19 +76,19 @@ pub fn report(
     vectors: &mut [u64],
     marks: &mut [u8],
 ) -> u64
-    requires { ReportAsked moves.now labels.now sheet nodes
+    requires { ReportAsked sheet.moves.now sheet.labels.now sheet.has nodes.now
         (buffers lower.old upper.old verdicts.old order.old words.old vectors.old marks.old) }
-    ensures { ReportLeft moves.now labels.now nodes
+    ensures { ReportLeft sheet.entry.moves.now sheet.entry.labels.now nodes.now
         (buffers lower.old upper.old verdicts.old order.old
         words.old vectors.old marks.old)
         (buffers lower.new upper.new verdicts.new order.new
         words.new vectors.new marks.new)
         result }
 {
-    let n = sheet.states;
-    let m = sheet.moves;
+    let n = sheet.has.states;
+    let m = sheet.has.moves;
     let count = nodes.count;
-    let depth = decide_all(sheet, nodes, moves, labels, words, vectors, marks);
+    let depth = decide_all(sheet, nodes, words, vectors, marks);
     results::write(vectors, marks, n, lower, upper, verdicts);
     clear_all(n, m, count, words, vectors, marks);
     worst_first::sort(lower, upper, n, order, vectors);

@@ -1,144 +1,112 @@
 -- The rates of one state, added up word by word. Assumes nothing.
-use mathlib.Core.Path.{◌≡◌, refl, sym, ap, ◌∙◌}
-use mathlib.Core.Bool.{cond}
-use mathlib.Core.List.{List}
-use Prim.Native.Nat.{ℕ, suc, ◌+◌, ◌-◌, ◌^◌, ◌≤◌, ◌<◌}
-use native.Mathlib.Omega.{arith}
-use native.Mathlib.Nat.{zero-add}
-use lib.ListN.{length, set, length-set}
-use lib.Dec.{eqb}
-use mir.Val.{Fits}
-use mir.Syntax.{w64}
+use Rattle.std.specs.Prelude.{◌≡◌, refl, cond, List, ℕ, suc, ◌+◌, ◌-◌, ◌^◌, ◌≤◌, ◌<◌, length, take, drop, set, replicate, eqb}
+use Rattle.std.proofs.Common.{sym, ap, ◌∙◌, arith, zero-add, length-take-le, length-drop, Fits, w64}
+use Rattle.std.proofs.lemmas.List.{length-replicate}
 use borrow.Author.Tests.{eq-eqb}
 use Rattle.csl.specs.Limits.{most_rate}
 use Rattle.csl.specs.Chain.{sum_to}
 use Rattle.numbers.specs.Sum.{sum_term, running_is, running_fits}
-use Rattle.numbers.specs.Filled.{Filled, added_at, table_at}
+use Rattle.numbers.specs.Filled.{added_at}
 use Rattle.rate_matrix.specs.Words.{at, to_of, rate_of, rate_between, row_of}
 use Rattle.rate_matrix.specs.Lines.{exit_by_lines}
 use Rattle.rate_matrix.specs.Sorted.{row_sum, row_zero, row_next, row_most}
-use Rattle.clean_copy.specs.Laid.{Laid, laid_rate, GatherAsked, AddAsked, Gathered}
+use Rattle.clean_copy.specs.declared.rates.Rates.{Rates}
+use Rattle.clean_copy.specs.Laid.{laid_rate, Gathered}
+use Rattle.clean_copy.specs.Rates.{rate_from}
 
 -- a number added to one of a list
 added : (l : List ℕ) (s x : ℕ) → s < length l → (t : ℕ) → at (set l s (at l s + x)) t ≡ at l t + cond (eqb s t) x 0
 added l s x h t = simp zero-add at (added_at l 0 s x (omega arith) t)
 
--- where the row of a state begins
-module _ {rows columns : List ℕ} {n : ℕ} (p : Laid rows columns n) (s : ℕ) where
-  pub begin_first : s ≡ 0 → 0 ≡ row_of rows (length rows) s
-  begin_first e = rw e (sym (row_zero rows (length rows)))
+-- how many words a row has
+part_length : (words : List ℕ) (begin end : ℕ) → begin ≤ end → end ≤ length words → length (take (end - begin) (drop begin words)) ≡ end - begin
+part_length words begin end h k = length-take-le (end - begin) (drop begin words) (omega (arith, length-drop begin words))
 
-  pub begin_next : s < n → (s ≡ 0 → ⊥) → at columns (n + (s - 1)) ≡ row_of rows (length rows) s
-  begin_next h d = let e : suc (s - 1) ≡ s = omega arith in p.ends (s - 1) (omega arith) ∙ ap (row_of rows (length rows)) e
-
-  -- no rate is over the limit
-  rate_most : s < n → (t : ℕ) → t < n → rate_between rows (length rows) s t ≤ most_rate
-  rate_most h t l =
-      omega (
-        arith,
-        sum_term (rate_between rows (length rows) s) t n l,
-        exit_by_lines rows s n (length rows) p.lines.targets,
-        p.lines.limit s h,
-      )
-
-pub ruleset begin_laws = (begin_first, begin_next)
+-- how many places there are
+pub clear_length : {n : ℕ} (totals : List ℕ) → totals ≡ replicate n 0 → length totals ≡ n
+clear_length {n} totals e = ap length e ∙ length-replicate {A = ℕ} n 0
 
 -- what word j adds to the rate to t
-abbrev toward : List ℕ → ℕ → ℕ → ℕ
-toward rows t j = cond (eqb (to_of rows j) t) (rate_of rows j) 0
+abbrev pub toward : List ℕ → ℕ → ℕ → ℕ
+toward words t j = cond (eqb (to_of words j) t) (rate_of words j) 0
 
--- the words of a row up to j are added
-pub record Adding (rows columns : List ℕ) (n s : ℕ) (old : List ℕ) (begin end : ℕ) (totals : List ℕ) (j : ℕ) : Type 0 where
-  pub asked : AddAsked rows columns n s old
-  pub begins : begin ≡ row_of rows (length rows) s
-  pub ends : end ≡ row_of rows (length rows) (suc s)
-  pub within : j ≤ end
-  pub same : length totals ≡ length old
-  pub sums : (t : ℕ) → t < n → at totals t + sum_to (toward rows t) begin ≡ sum_to (toward rows t) j
+-- the words of a row from its begin up to j are added
+pub record Adding (words : List ℕ) (n begin : ℕ) (totals : List ℕ) (j : ℕ) : Type 0 where
+  pub sums : (t : ℕ) → t < n → at totals t + sum_to (toward words t) begin ≡ sum_to (toward words t) j
 
-pub add_start : {rows columns : List ℕ} {n s : ℕ} {old : List ℕ} (begin : ℕ) → AddAsked rows columns n s old → begin ≡ row_of rows (length rows) s
-    → Adding rows columns n s old begin (at columns (n + s)) old begin
-add_start {rows} {columns} {n} {s} begin p e =
-    let end = p.asked.laid.ends s p.asked.here in
-    record {
-      asked = p;
-      begins = e;
-      ends = end;
-      within = omega (arith, e, end, row_next rows (length rows) s);
-      same = refl;
-      sums = λ t l. omega (arith, p.clear t l);
-    }
+module _ (r : Rates) (s : ℕ) where
+  -- where the row of a state begins
+  pub begin_first : s ≡ 0 → 0 ≡ row_of r.rows.now (length r.rows.now) s
+  begin_first e = rw e (sym (row_zero r.rows.now (length r.rows.now)))
 
-module _ {rows columns : List ℕ} {n s : ℕ} {old : List ℕ} {begin end : ℕ} {totals : List ℕ} {j : ℕ}
-    (v : Adding rows columns n s old begin end totals j) where
-  laid : Laid rows columns n
-  laid = v.asked.asked.laid
+  pub begin_next : s < r.states → (s ≡ 0 → ⊥) → at r.columns.now (r.states + (s - 1)) ≡ row_of r.rows.now (length r.rows.now) s
+  begin_next h d =
+      let e : suc (s - 1) ≡ s = omega arith in
+      r.laid.ends (s - 1) (omega arith) ∙ ap (row_of r.rows.now (length r.rows.now)) e
 
-  -- the row, as a part of the words
-  row_is : (t : ℕ) → rate_between rows (length rows) s t + sum_to (toward rows t) begin ≡ sum_to (toward rows t) end
-  unfolding rate_between
-  row_is t = rw (v.begins, v.ends) (row_sum rows (toward rows t) s (length rows) laid.in_rows)
+  module _ (here : s < r.states) where
+    -- no rate is over the limit
+    rate_most : (t : ℕ) → t < r.states → rate_between r.rows.now (length r.rows.now) s t ≤ most_rate
+    rate_most t l =
+        omega (
+          arith,
+          sum_term (rate_between r.rows.now (length r.rows.now) s) t r.states l,
+          exit_by_lines r.rows.now s r.states (length r.rows.now) r.laid.lines.targets,
+          r.laid.lines.limit s here,
+        )
 
-  module _ (h : j < end) where
-    pub in_rows : j < length rows
-    in_rows = omega (arith, v.ends, row_most rows (length rows) (suc s))
+    module _ (begin : ℕ) (b : begin ≡ row_of r.rows.now (length r.rows.now) s) where
+      -- the row, as a part of the words
+      ends : at r.columns.now (r.states + s) ≡ row_of r.rows.now (length r.rows.now) (suc s)
+      ends = r.laid.ends s here
 
-    pub next_fits : Fits w64 (j + 1)
-    next_fits = omega (arith, in_rows, laid.lines.few)
+      pub row_within : begin ≤ at r.columns.now (r.states + s)
+      row_within = omega (arith, ends, row_next r.rows.now (length r.rows.now) s)
 
-    module _ (to : ℕ) (e : to ≡ to_of rows j) where
-      target : to < n
-      target = omega (arith, laid.lines.targets j in_rows)
+      pub row_inside : at r.columns.now (r.states + s) ≤ length r.rows.now
+      row_inside = omega (arith, ends, row_most r.rows.now (length r.rows.now) (suc s))
 
-      pub in_totals : to < length totals
-      in_totals = omega (arith, target, v.same, v.asked.asked.room)
+      row_is : (t : ℕ) → rate_between r.rows.now (length r.rows.now) s t + sum_to (toward r.rows.now t) begin
+          ≡ sum_to (toward r.rows.now t) (at r.columns.now (r.states + s))
+      unfolding rate_between
+      row_is t = rw (b, ends) (row_sum r.rows.now (toward r.rows.now t) s (length r.rows.now) r.laid.in_rows)
 
-      module _ (rate total : ℕ) (r : rate ≡ rate_of rows j) (w : total ≡ at totals to) where
-        here : toward rows to j ≡ rate
-        here = rw (eq-eqb (to_of rows j) to (sym e)) (sym r)
+      -- one word more is added, and all
+      module _ {totals : List ℕ} {j : ℕ} (v : Adding r.rows.now r.states begin totals j) (h : j < at r.columns.now (r.states + s))
+          (to : ℕ) (e : to ≡ to_of r.rows.now j) (rate : ℕ) (q : rate ≡ rate_of r.rows.now j) where
+        pub target : to < r.states
+        target = omega (arith, r.laid.lines.targets j (omega (arith, row_inside)))
 
-        pub add_fits : Fits w64 (total + rate)
+        counted : toward r.rows.now to j ≡ rate
+        counted = rw (eq-eqb (to_of r.rows.now j) to (sym e)) (sym q)
+
+        pub add_fits : Fits w64 (at totals to + rate)
         add_fits =
-            let f = running_fits (toward rows to) total 0 begin end j (2 ^ 64) (omega (arith, w, v.sums to target))
-            (omega (arith, row_is to, rate_most laid s v.asked.asked.here to target)) h in
-            omega (arith, f, here)
+            let f = running_fits (toward r.rows.now to) (at totals to) 0 begin (at r.columns.now (r.states + s)) j (2 ^ 64) (omega (arith, v.sums to target))
+            (omega (arith, row_is to, rate_most to target)) h in
+            omega (arith, f, counted)
 
-        pub add_turn : Adding rows columns n s old begin end (set totals to (total + rate)) (j + 1)
-        add_turn =
+        pub add_more : length totals ≡ r.states → Adding r.rows.now r.states begin (set totals to (at totals to + rate)) (j + 1)
+        add_more l =
             record {
-              asked = v.asked;
-              begins = v.begins;
-              ends = v.ends;
-              within = omega arith;
-              same = length-set totals to (total + rate) ∙ v.same;
-              sums = λ t l.
-                  rw (w, added totals to rate in_totals t, e, r)
-                  (running_is (toward rows t) (at totals t) 0 begin j (omega (arith, v.sums t l)) ∙ omega arith);
+              sums = λ t k.
+                  rw (added totals to rate (omega (arith, target)) t, e, q)
+                  (running_is (toward r.rows.now t) (at totals t) 0 begin j (omega (arith, v.sums t k)) ∙ omega arith);
             }
 
-  pub add_done : end ≤ j → Gathered (rate_between rows (length rows) s) n totals
-  add_done h =
-      let e : j ≡ end = omega (arith, v.within) in
-      record { each = λ t l. omega (arith, row_is t, v.sums t l, ap (sum_to (toward rows t)) e) }
+      pub add_all : {totals : List ℕ} (k : ℕ) → Adding r.rows.now r.states begin totals (begin + k)
+          → k ≡ length (take (at r.columns.now (r.states + s) - begin) (drop begin r.rows.now))
+          → Gathered (rate_between r.rows.now (length r.rows.now) s) r.states totals
+      add_all k v e =
+          let j : begin + k ≡ at r.columns.now (r.states + s)
+          = omega (arith, e, row_within, part_length r.rows.now begin (at r.columns.now (r.states + s)) row_within row_inside) in
+          record { each = λ t l. omega (arith, row_is t, v.sums t l, ap (sum_to (toward r.rows.now t)) j) }
 
-pub ruleset add_laws = (add_start, in_rows, next_fits, in_totals, add_fits, add_turn, add_done)
+    -- after the row the rate to the own state
+    module _ {l : List ℕ} (g : Gathered (rate_between r.rows.now (length r.rows.now) s) r.states l) where
+      pub own_fits : Fits w64 (at l s + at r.columns.now (r.states + r.states + s))
+      own_fits = omega (arith, g.each s here, rate_most s here, r.laid.owns s here)
 
--- all of them: the places cleared, and after the row the rate to the own state
-pub may_add : {rows columns : List ℕ} {n s : ℕ} {old l : List ℕ} → GatherAsked rows columns n s old → Filled (λ _. 0) 0 n old l
-    → AddAsked rows columns n s l
-may_add p f =
-    record { asked = record { laid = p.laid; here = p.here; room = omega (arith, f.same, p.room) }; clear = λ t l. table_at f t l }
-
-module _ {rows columns : List ℕ} {n s : ℕ} {l : List ℕ} (p : Laid rows columns n) (h : s < n)
-    (g : Gathered (rate_between rows (length rows) s) n l) where
-  pub own_fits : Fits w64 (at l s + at columns (n + n + s))
-  own_fits = omega (arith, g.each s h, rate_most p s h s h, p.owns s h)
-
-  pub own_added_lem : n ≤ length l → Gathered (laid_rate rows columns n s) n (set l s (at l s + at columns (n + n + s)))
-  unfolding laid_rate
-  own_added_lem k =
-      record {
-        each = λ t b. added l s (at columns (n + n + s)) (omega arith) t ∙ rw (g.each t b) refl;
-      }
-
-pub ruleset gather_laws = (may_add, own_fits, own_added_lem)
+      pub own_added_lem : length l ≡ r.states → Gathered (rate_from r s) r.states (set l s (at l s + at r.columns.now (r.states + r.states + s)))
+      unfolding laid_rate
+      own_added_lem k = record { each = λ t b. added l s (at r.columns.now (r.states + r.states + s)) (omega arith) t ∙ rw (g.each t b) refl }

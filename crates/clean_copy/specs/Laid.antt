@@ -15,17 +15,6 @@ pub record Laid (rows columns : List ℕ) (n : ℕ) : Type 0 where
 unfoldable pub laid_rate : (rows columns : List ℕ) (n s t : ℕ) → ℕ
 laid_rate rows columns n s t = rate_between rows (length rows) s t + cond (eqb s t) (at columns (n + n + s)) 0
 
--- the rates of state s are to be added up in words that have room for them
-pub record GatherAsked (rows columns : List ℕ) (n s : ℕ) (totals : List ℕ) : Type 0 where
-  pub laid : Laid rows columns n
-  pub here : s < n
-  pub room : n ≤ length totals
-
--- there, and with 0 in each place
-pub record AddAsked (rows columns : List ℕ) (n s : ℕ) (totals : List ℕ) : Type 0 where
-  pub asked : GatherAsked rows columns n s totals
-  pub clear : (t : ℕ) → t < n → at totals t ≡ 0
-
 -- the first n are f's
 pub record Gathered (f : ℕ → ℕ) (n : ℕ) (totals : List ℕ) : Type 0 where
   pub each : (t : ℕ) → t < n → at totals t ≡ f t

@@ -1,7 +1,6 @@
 -- The numbers that a copy is refused with: 1 to 17. Assumes nothing.
-use Rattle.std.specs.Prelude.{◌≡◌, [], ◌∷◌, ◌++◌, ℕ, ◌≤◌, ◌<◌, ltb}
+use Rattle.std.specs.Prelude.{◌≡◌, [], ◌∷◌, ◌++◌, ℕ, ◌≤◌, ◌<◌, ltb, Some}
 use Rattle.std.proofs.Math.Path.{refl}
-use Rattle.std.proofs.Math.Option.{some}
 use Rattle.std.proofs.Math.Dec.{leb}
 use borrow.Author.Tests.{ltb-true, leb-true}
 use Rattle.csl.specs.Text.{Text, every}
@@ -9,7 +8,7 @@ use Rattle.csl.specs.Refusal.{test, sheet_tests}
 use Rattle.csl.specs.Copy.{short_copy, copy_refusal}
 use Rattle.accepted.specs.Order.{first_number}
 
-module _ (moves labels : Text) (lent k : ℕ) (h : copy_refusal moves labels lent ≡ some k) where
+module _ (moves labels : Text) (lent k : ℕ) (h : copy_refusal moves labels lent ≡ Some k) where
   pub copy_number_some : 0 < k
   unfolding copy_refusal sheet_tests every
   copy_number_some = ltb-true 0 k (first_number (ltb 0) (sheet_tests moves labels ++ (test 17 (short_copy moves labels lent) ∷ [])) k refl h)

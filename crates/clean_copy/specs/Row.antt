@@ -1,8 +1,7 @@
 -- The lines of the copy from one state, and their parts: a line for each state that it has a rate to. Assumes nothing.
-use Rattle.std.specs.Prelude.{◌≡◌, refl, cond, List, [], ◌∷◌, ◌++◌, ℕ, zero, suc, ◌+◌, ◌≤◌, ◌<◌, length, eqb}
+use Rattle.std.specs.Prelude.{◌≡◌, refl, cond, List, [], ◌∷◌, ◌++◌, ℕ, zero, suc, ◌+◌, ◌<◌, eqb}
 use Rattle.std.proofs.Common.{append_assoc, arith, add-one}
 use Rattle.csl.specs.Text.{Text}
-use Rattle.csl.specs.Limits.{most_states}
 use Rattle.csl.specs.Moves.{Move}
 use Rattle.csl.specs.Copy.{lines_text, pairs_from, pairs_below}
 use Rattle.numbers.specs.Filled.{at}
@@ -17,11 +16,6 @@ pair_text s t rate = lines_text (pair_of s t rate)
 -- the lines from s to the states below t, where the rates from s stand in a list
 unfoldable pub row_lines : List ℕ → (s t : ℕ) → Text
 row_lines rates s t = lines_text (pairs_from (λ _ g. at rates g) s t)
-
--- rates to each of n states
-pub record RowAsked (rates : List ℕ) (n : ℕ) : Type 0 where
-  pub room : n ≤ length rates
-  pub small : n ≤ most_states
 
 -- the lines of two lists, one behind the other
 pub lines_append : (a b : List Move) → lines_text (a ++ b) ≡ lines_text a ++ lines_text b

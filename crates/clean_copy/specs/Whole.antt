@@ -1,11 +1,11 @@
 -- The copy of what is laid in words. Assumes nothing.
-use Rattle.std.specs.Prelude.{◌≡◌, List, ◌++◌, ℕ, ◌+◌, ◌≤◌, length}
+use Rattle.std.specs.Prelude.{◌≡◌, List, ◌++◌, ℕ, ◌+◌}
 use Rattle.std.proofs.Math.Path.{refl, ap}
 use Rattle.std.proofs.Common.{add-one}
 use Rattle.csl.specs.Text.{Text, bytes}
 use Rattle.csl.specs.Copy.{lines_text, moves_text, pairs_from, pairs_below}
 use Rattle.clean_copy.specs.Row.{row_lines, lines_append, pairs_same}
-use Rattle.clean_copy.specs.Laid.{Laid, laid_rate, Gathered}
+use Rattle.clean_copy.specs.Laid.{laid_rate, Gathered}
 
 -- the copy; its lines from the states below s, and those from s
 unfoldable pub laid_copy : (rows columns : List ℕ) (n : ℕ) → Text
@@ -16,11 +16,6 @@ lines_to rows columns n s = lines_text (pairs_below (laid_rate rows columns n) n
 
 unfoldable pub lines_from : (rows columns : List ℕ) (n s : ℕ) → Text
 lines_from rows columns n s = lines_text (pairs_from (laid_rate rows columns n) s n)
-
--- rates that are laid, and words to add up those of one state in
-pub record WholeAsked (rows columns : List ℕ) (n : ℕ) (totals : List ℕ) : Type 0 where
-  pub laid : Laid rows columns n
-  pub room : n ≤ length totals
 
 module _ (rows columns : List ℕ) (n : ℕ) where
   -- the lines stand behind the first line

@@ -1,3 +1,3 @@
--- What a number tells of, and counts within a text.
+-- Whether a refusal is told, and counts within a text.
 pub mod Told
 pub mod Counts

@@ -1,12 +1,14 @@
--- The number of a refusal, and 0 where there is none. Assumes nothing.
-use Rattle.std.specs.Prelude.{◌≡◌, Bool, true, false, ℕ, ◌<◌}
-use Rattle.std.proofs.Math.Option.{Option, none, some}
+-- Whether a refusal is told, and its number. Assumes nothing.
+use Rattle.std.specs.Prelude.{◌≡◌, Bool, true, false, ℕ, Option, None, Some}
+use Rattle.verdicts.specs.Refusal.{number_of}
+use Rattle.verdicts.specs.declared.refusal.Refusal.{Refusal}
 
-abbrev pub number_or0 : Option ℕ → ℕ
-number_or0 (some number) = number
-number_or0 none = 0
+-- the number of a refusal, if there is one
+abbrev pub number_told : Option Refusal → Option ℕ
+number_told (Some refusal) = Some (number_of refusal)
+number_told None = None
 
--- whether a number tells of a refusal
-abbrev pub Told : ℕ → Bool → Type 0
-Told number true = 0 < number
-Told number false = number ≡ 0
+-- whether there is one
+abbrev pub Told : Option Refusal → Bool → Type 0
+Told (Some refusal) told = told ≡ true
+Told None told = told ≡ false

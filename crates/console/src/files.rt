@@ -26,6 +26,7 @@ fn read_open(file: &mut impl Read, text: &mut [u8]) -> usize
     ensures { IsPrefixLen result text.new }
 {
     let mut used: usize = 0;
+    // No range to go over: each read says how much it gave. To read on until the end is std's for a `Vec` alone, and there is no heap.
     while used < text.len() {
         let Ok(more) = file.read(&mut text[used..]) else {
             return 0;

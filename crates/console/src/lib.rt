@@ -1,4 +1,4 @@
-// What the programs share: texts from files, what is printed, and sentences on refusals.
+// What the programs share: texts from files, what is printed, and what is said of a refusal.
 
 #![tactic(auto)]
 

@@ -1,8 +1,7 @@
 -- What follows from the definitions alone: the user's third demand, of EVERY report that has a backing, whoever made it; the bench values;
 -- what document 01 says in passing; and that the rules can be kept. Nothing here speaks of a program. Assumes nothing.
-use Rattle.std.specs.Prelude.{◌≡◌, refl, Bool, true, false, cond, ◌&&◌, ◌⊎◌, ℕ, suc, ◌+◌, ◌*◌, ◌-◌, ◌≤◌, ◌<◌, min, List, ◌++◌, leb, eqb, length, drop, replicate}
+use Rattle.std.specs.Prelude.{◌≡◌, refl, Bool, true, false, cond, ◌&&◌, ◌⊎◌, ℕ, suc, ◌+◌, ◌*◌, ◌-◌, ◌≤◌, ◌<◌, min, List, ◌++◌, leb, eqb, length, drop, replicate, None, Some}
 use Rattle.std.proofs.Common.{◌∙◌, le-leb, le-ltb, arith}
-use Rattle.std.proofs.Math.Option.{none, some}
 use Rattle.csl.specs.Text.{Text, any}
 use Rattle.csl.specs.Limits.{billion, formula_digits, hour, most_hundredths, most_rate_hundredths, width_factor, spare_steps}
 use Rattle.csl.specs.Number.{is_number, value_of}
@@ -185,7 +184,7 @@ unfolding depth_of
 first_time_0_has_the_depth_of_until c r p u a b = refl
 
 pub first_time_0_is_tested_as_until : (names : List Text) (q : ℕ) (r : Comparison) (p u : ℕ) (a b : Formula)
-    → first_of (formula_tests names q (some (chance r p (between 0 u a b)))) ≡ first_of (formula_tests names q (some (chance r p (until u a b))))
+    → first_of (formula_tests names q (Some (chance r p (between 0 u a b)))) ≡ first_of (formula_tests names q (Some (chance r p (until u a b))))
 unfolding formula_tests formula_from is_missing large_formula strange_label wrong_bound wrong_times high_load nodes nodes_in levels levels_in labels_pass labels_pass_in paths_pass paths_pass_in
 first_time_0_is_tested_as_until names q r p u a b = rw (le-leb 0 u (omega arith)) refl
 
@@ -345,7 +344,7 @@ undecided_job_has_a_report = record { accepts = refl; reported = examples.undeci
 -- T7. Hours without a point: "the top is 8,760 hours as before", and each is read, tested and weighed as document 01 has whole hours, so a
 -- formula without a point keeps its report.
 pub whole_hours_are_read : (w : Text) → any (λ b. eqb b point) w ≡ false
-    → hundredths_of w ≡ cond (is_number formula_digits w) (some (value_of w * hour)) none
+    → hundredths_of w ≡ cond (is_number formula_digits w) (Some (value_of w * hour)) None
 whole_hours_are_read w h = without-point.whole_read w h
 
 -- 13: "hours over 8,760"; 14: "q × t over 64,000,000"
@@ -468,8 +467,8 @@ marks_change_nothing_else j x y same h a left f = finished_alike j x y same h a 
 
 -- The reader of formulas is the grammar as document 01 lists it: tokens are read as a formula exactly where they spell it, so a text has
 -- at most one reading.
-pub formulas_are_read_where_they_are_spelled : (ts : List Text) (f : Formula) → Spells f ts → whole (read_state (length ts) ts) ≡ some f
+pub formulas_are_read_where_they_are_spelled : (ts : List Text) (f : Formula) → Spells f ts → whole (read_state (length ts) ts) ≡ Some f
 formulas_are_read_where_they_are_spelled ts f h = read_if_spelled ts f h
 
-pub formulas_are_spelled_where_they_are_read : (ts : List Text) (f : Formula) → whole (read_state (length ts) ts) ≡ some f → Spells f ts
+pub formulas_are_spelled_where_they_are_read : (ts : List Text) (f : Formula) → whole (read_state (length ts) ts) ≡ Some f → Spells f ts
 formulas_are_spelled_where_they_are_read ts f h = spelled_if_read ts f h

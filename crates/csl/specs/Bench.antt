@@ -1,7 +1,6 @@
 -- Document 01's bench values, and those of the requests: the jobs, and what is said of them. `Laws.Bench` shows it. Assumes nothing.
-use Rattle.std.specs.Prelude.{◌≡◌, Bool, true, ℕ, zero, suc, ◌+◌, ◌*◌, ◌%◌, ◌≤◌, List, [], ◌∷◌, ◌++◌, leb, eqb, replicate}
+use Rattle.std.specs.Prelude.{◌≡◌, Bool, true, ℕ, zero, suc, ◌+◌, ◌*◌, ◌%◌, ◌≤◌, List, [], ◌∷◌, ◌++◌, leb, eqb, replicate, None, Some}
 use Prim.Native.String.{String}
-use Rattle.std.proofs.Math.Option.{none, some}
 use Rattle.csl.specs.Text.{Text, bytes}
 use Rattle.csl.specs.Limits.{most_nodes, hour, most_hundredths, most_rate_hundredths, rate_hundredths}
 use Rattle.csl.specs.Formula.{Formula, always, label, negated, both, chance, Path, until, next_move, between, Less, AtMost, AtLeast, More}
@@ -82,7 +81,7 @@ abbrev pub Accepts : Job → Formula → ℕ → ℕ → Type 0
 Accepts j f q d = outcome j enough ≡ accepted (job_chain j) f q d
 
 abbrev pub Refuses : Job → ℕ → Type 0
-Refuses j number = refusal j enough ≡ some number
+Refuses j number = refusal j enough ≡ Some number
 
 -- over the labels of the small sheet, a moves text has this copy
 abbrev pub Copies : String → String → Type 0
@@ -93,10 +92,10 @@ abbrev pub files_of : String → String → Files
 files_of transitions labels = record { transitions = bytes transitions; labels = bytes labels }
 
 abbrev pub Imports : Files → String → String → Type 0
-Imports f moves labels = (import_refusal f 100 100 ≡ none) × (imported_moves f ≡ bytes moves) × (imported_labels f ≡ bytes labels)
+Imports f moves labels = (import_refusal f 100 100 ≡ None) × (imported_moves f ≡ bytes moves) × (imported_labels f ≡ bytes labels)
 
 abbrev pub Declines : Files → ℕ → Type 0
-Declines f number = import_refusal f 100 100 ≡ some number
+Declines f number = import_refusal f 100 100 ≡ Some number
 
 -- a transition file of two states and a move, and the labels that it is imported with
 abbrev pub moving : String → Files
@@ -216,8 +215,8 @@ pub record SecondListing : Type 0 where
   -- "A lent order buffer of n 16-bit numbers holds the state numbers in that order after acceptance", and beyond is unchanged
   pub order_holds : (filled 2 1 1 (λ s. s) (λ s. s) (λ s. Yes) (lent_as (7 ∷ 7 ∷ 7 ∷ []) (7 ∷ 7 ∷ []))).order ≡ 1 ∷ 0 ∷ 7 ∷ []
   -- "15 covers it too"
-  pub order_short : refusal (small "tt\n") (lengths (lent_as (7 ∷ []) (7 ∷ 7 ∷ []))) ≡ some 15
-  pub order_long : refusal (small "tt\n") (lengths (lent_as (7 ∷ 7 ∷ []) (7 ∷ 7 ∷ []))) ≡ none
+  pub order_short : refusal (small "tt\n") (lengths (lent_as (7 ∷ []) (7 ∷ 7 ∷ []))) ≡ Some 15
+  pub order_long : refusal (small "tt\n") (lengths (lent_as (7 ∷ 7 ∷ []) (7 ∷ 7 ∷ []))) ≡ None
 
 -- three states, one after the other, that are left once in a million hours; the second is up or not
 abbrev pub in_turn : (second formula : String) → Job
@@ -249,8 +248,8 @@ pub record PossibleAndCertain : Type 0 where
   pub no_move_enters : Decides (in_turn "1" "P <= 0 X dead\n") (λ s. negation (marked (eqb s 1)))
   pub all_moves_enter : Decides (in_turn "1" "P < 1000000000 X up\n") (yes_from 1)
   -- "the move words lent grow to 2 × m": 15 with fewer, and zeros in so many after acceptance
-  pub words_short : refusal (small "tt\n") (lengths (lent_as (7 ∷ 7 ∷ []) (7 ∷ []))) ≡ some 15
-  pub words_long : refusal (small "tt\n") (lengths (lent_as (7 ∷ 7 ∷ []) (7 ∷ 7 ∷ []))) ≡ none
+  pub words_short : refusal (small "tt\n") (lengths (lent_as (7 ∷ 7 ∷ []) (7 ∷ []))) ≡ Some 15
+  pub words_long : refusal (small "tt\n") (lengths (lent_as (7 ∷ 7 ∷ []) (7 ∷ 7 ∷ []))) ≡ None
   pub words_zero : (filled 2 1 1 (λ s. s) (λ s. s) (λ s. Yes) (lent_as (7 ∷ 7 ∷ []) (7 ∷ 7 ∷ 7 ∷ []))).moves ≡ 0 ∷ 0 ∷ 7 ∷ []
 
 -- Until between two times, over the small sheet, with q 64,000,000 and without moves.
@@ -293,30 +292,30 @@ pub record AnyOrder : Type 0 where
   pub two_lines_over : Refuses (job_of "from,to,rate\n0,1,64000000\n1,0,1\n0,1,1\n" "tt\n") 9
   pub two_lines_full : Accepts (job_of "from,to,rate\n0,1,63999999\n0,1,1\n" "P >= 5 U 1 up dead\n") (chance AtLeast 5 (until hour up dead)) 64000000 168
   -- 15 counts lines
-  pub lines_counted : refusal (job_of "from,to,rate\n0,1,250\n0,1,250\n" "tt\n") (lengths (lent_as (7 ∷ 7 ∷ []) (replicate 3 7))) ≡ some 15
+  pub lines_counted : refusal (job_of "from,to,rate\n0,1,250\n0,1,250\n" "tt\n") (lengths (lent_as (7 ∷ 7 ∷ []) (replicate 3 7))) ≡ Some 15
   -- "the moves text that document 01 described, moves to the own state included, pairs rising and none twice"
   pub copy : Copies "from,to,rate\n1,0,5\n0,1,20\n0,1,30\n1,1,4\n1,0,95\n" "from,to,rate\n0,1,50\n1,0,100\n1,1,4\n"
   pub copy_of_a_copy : Copies "from,to,rate\n0,1,50\n1,0,100\n1,1,4\n" "from,to,rate\n0,1,50\n1,0,100\n1,1,4\n"
   pub copy_without_moves : Copies "from,to,rate\n" "from,to,rate\n"
   -- "It answers with the copy's length; bytes beyond are unchanged"; "17 when the buffer for the copy is too short, tested last"
   pub copied_beyond : Copied (bytes "from,to,rate\n") (bytes "state\n0\n") (replicate 15 7) (copied 13) (bytes "from,to,rate\n" ++ (7 ∷ 7 ∷ []))
-  pub copy_fits : copy_refusal (bytes "from,to,rate\n0,0,5\n0,0,5\n") (bytes "state\n0\n") 20 ≡ none
-  pub copy_short : copy_refusal (bytes "from,to,rate\n0,0,5\n0,0,5\n") (bytes "state\n0\n") 19 ≡ some 17
-  pub tested_last : copy_refusal (bytes "from,to,rate\n0,0,0\n") (bytes "state\n0\n") 0 ≡ some 9
+  pub copy_fits : copy_refusal (bytes "from,to,rate\n0,0,5\n0,0,5\n") (bytes "state\n0\n") 20 ≡ None
+  pub copy_short : copy_refusal (bytes "from,to,rate\n0,0,5\n0,0,5\n") (bytes "state\n0\n") 19 ≡ Some 17
+  pub tested_last : copy_refusal (bytes "from,to,rate\n0,0,0\n") (bytes "state\n0\n") 0 ≡ Some 9
   -- "tests 1 to 9", of these two texts
-  pub empty_moves : copy_refusal [] (bytes "state\n0\n") 0 ≡ some 1
-  pub strange_copy : copy_refusal (bytes "from,to,rate\n0,1,5\n") (bytes "state\n0\n") 0 ≡ some 6
+  pub empty_moves : copy_refusal [] (bytes "state\n0\n") 0 ≡ Some 1
+  pub strange_copy : copy_refusal (bytes "from,to,rate\n0,1,5\n") (bytes "state\n0\n") 0 ≡ Some 6
 
 -- The mark bytes of the small sheet, which has two states, with a formula of 3 nodes, of 17 and of 19.
 pub record SmallerMarkBuffer : Type 0 where
   -- "nodes × n where that is less"
-  pub three_short : refusal (small "& up dead\n") (lengths (lent_marks 5)) ≡ some 15
-  pub three_long : refusal (small "& up dead\n") (lengths (lent_marks 6)) ≡ none
+  pub three_short : refusal (small "& up dead\n") (lengths (lent_marks 5)) ≡ Some 15
+  pub three_long : refusal (small "& up dead\n") (lengths (lent_marks 6)) ≡ None
   -- "mark bytes of 17 × n .. shall be enough"
-  pub seventeen_short : refusal (small "& up & up & up & up & up & up & up & up dead\n") (lengths (lent_marks 33)) ≡ some 15
-  pub seventeen_long : refusal (small "& up & up & up & up & up & up & up & up dead\n") (lengths (lent_marks 34)) ≡ none
-  pub nineteen_short : refusal (small "& up & up & up & up & up & up & up & up & up dead\n") (lengths (lent_marks 33)) ≡ some 15
-  pub nineteen_long : refusal (small "& up & up & up & up & up & up & up & up & up dead\n") (lengths (lent_marks 34)) ≡ none
+  pub seventeen_short : refusal (small "& up & up & up & up & up & up & up & up dead\n") (lengths (lent_marks 33)) ≡ Some 15
+  pub seventeen_long : refusal (small "& up & up & up & up & up & up & up & up dead\n") (lengths (lent_marks 34)) ≡ None
+  pub nineteen_short : refusal (small "& up & up & up & up & up & up & up & up & up dead\n") (lengths (lent_marks 33)) ≡ Some 15
+  pub nineteen_long : refusal (small "& up & up & up & up & up & up & up & up & up dead\n") (lengths (lent_marks 34)) ≡ None
   -- "the zeros after acceptance use the new length"
   pub three_zero : (filled 2 1 3 (λ s. s) (λ s. s) (λ s. Yes) (lent_marks 8)).marks ≡ replicate 6 0 ++ replicate 2 7
   pub nineteen_zero : (filled 2 1 19 (λ s. s) (λ s. s) (λ s. Yes) (lent_marks 38)).marks ≡ replicate 34 0 ++ replicate 4 7
@@ -373,10 +372,10 @@ pub record PrismFiles : Type 0 where
   pub no_moves_per_hour : Declines (named "2 1\n0 1 0\n") 9
   pub total_over : Declines (named "2 2\n0 1 64000000\n0 0 1\n") 9
   -- "Last, .. one longer than its lent buffer 15": 19 bytes of moves and 26 of labels
-  pub long_enough : import_refusal (named "2 1\n0 1 5\n") 19 26 ≡ none
-  pub moves_short : import_refusal (named "2 1\n0 1 5\n") 18 26 ≡ some 15
-  pub labels_short : import_refusal (named "2 1\n0 1 5\n") 19 25 ≡ some 15
-  pub nine_before_15 : import_refusal (named "2 1\n0 1 0\n") 0 0 ≡ some 9
+  pub long_enough : import_refusal (named "2 1\n0 1 5\n") 19 26 ≡ None
+  pub moves_short : import_refusal (named "2 1\n0 1 5\n") 18 26 ≡ Some 15
+  pub labels_short : import_refusal (named "2 1\n0 1 5\n") 19 25 ≡ Some 15
+  pub nine_before_15 : import_refusal (named "2 1\n0 1 0\n") 0 0 ≡ Some 9
   -- "the answer is the two lengths, and bytes beyond are unchanged"
   pub beyond : Imported (files_of "1 0\n" "0=\"init\"\n") (record { moves = replicate 15 7; labels = replicate 17 8 }) (imported 13 15)
       (record { moves = bytes "from,to,rate\n" ++ (7 ∷ 7 ∷ []); labels = bytes "state,init\n0,0\n" ++ (8 ∷ 8 ∷ []) })

@@ -1,7 +1,6 @@
 -- The clean copy: "A writer takes moves and labels, tests 1 to 9, and makes the moves text that document 01 described, moves to the own state
 -- included, pairs rising and none twice." Assumes nothing.
-use Rattle.std.specs.Prelude.{◌≡◌, ℕ, zero, suc, Bool, true, cond, ◌&&◌, ◌||◌, List, [], ◌∷◌, ◌++◌, length, ltb, eqb}
-use Rattle.std.proofs.Math.Option.{Option, none, some}
+use Rattle.std.specs.Prelude.{◌≡◌, ℕ, zero, suc, Bool, true, cond, ◌&&◌, ◌||◌, List, [], ◌∷◌, ◌++◌, length, ltb, eqb, Option, None, Some}
 use Rattle.csl.specs.Text.{Text, bytes}
 use Rattle.csl.specs.Line.{line_feed, comma}
 use Rattle.csl.specs.Moves.{Move}
@@ -62,8 +61,8 @@ pub data CopyAnswer : Type 0 where
 
 -- turned back, "with the buffer untouched"; or the copy at the front of the buffer, and "bytes beyond are unchanged"
 unfoldable pub CopiedBy : Option ℕ → Text → (before : List ℕ) → CopyAnswer → (after : List ℕ) → Type 0
-CopiedBy (some number) copy before a after = (a ≡ copy_refused number) × (after ≡ before)
-CopiedBy none copy before a after = (a ≡ copied (length copy)) × (after ≡ written copy before)
+CopiedBy (Some number) copy before a after = (a ≡ copy_refused number) × (after ≡ before)
+CopiedBy None copy before a after = (a ≡ copied (length copy)) × (after ≡ written copy before)
 
 -- the answer and the buffer after copying are as this paper has them
 unfoldable pub Copied : (moves labels : Text) → (before : List ℕ) → CopyAnswer → (after : List ℕ) → Type 0

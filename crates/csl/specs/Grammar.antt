@@ -1,6 +1,5 @@
 -- The formula text: "One line, at most 512 bytes, tokens set apart by one space." Assumes nothing.
-use Rattle.std.specs.Prelude.{ℕ, zero, suc, ◌≡◌, true, false, cond, ◌&&◌, List, [], ◌∷◌, ◌++◌, length, eqb}
-use Rattle.std.proofs.Math.Option.{Option, none, some}
+use Rattle.std.specs.Prelude.{ℕ, zero, suc, ◌≡◌, true, false, cond, ◌&&◌, List, [], ◌∷◌, ◌++◌, length, eqb, Option, None, Some}
 use Rattle.csl.specs.Text.{Text, bytes, same}
 use Rattle.csl.specs.Limits.{formula_digits}
 use Rattle.csl.specs.Number.{is_number, value_of}
@@ -27,18 +26,18 @@ and_then (found a rest) next = next a rest
 -- the four comparisons
 unfoldable pub comparison_of : Text → Option Comparison
 comparison_of w =
-    cond (same w (bytes "<")) (some Less)
-    (cond (same w (bytes "<=")) (some AtMost)
-    (cond (same w (bytes ">=")) (some AtLeast) (cond (same w (bytes ">")) (some More) none)))
+    cond (same w (bytes "<")) (Some Less)
+    (cond (same w (bytes "<=")) (Some AtMost)
+    (cond (same w (bytes ">=")) (Some AtLeast) (cond (same w (bytes ">")) (Some More) None)))
 
 -- a number in the formula
 unfoldable pub number_of : Text → Option ℕ
-number_of w = cond (is_number formula_digits w) (some (value_of w)) none
+number_of w = cond (is_number formula_digits w) (Some (value_of w)) None
 
 -- one token that spells something: a comparison, a threshold, or hours
 unfoldable pub on_token : {A : Type 0} → (Text → Option A) → List Text → (A → List Text → Found) → Found
 on_token spelled [] next = nothing
-on_token spelled (w ∷ ts) next = elim (spelled w) [ none ↦ nothing | some a ↦ next a ts ]
+on_token spelled (w ∷ ts) next = elim (spelled w) [ None ↦ nothing | Some a ↦ next a ts ]
 
 -- one state formula, and two
 unfoldable pub single : Reader → (Formula → Formula) → Reader
@@ -96,14 +95,14 @@ read_state (suc k) (w ∷ ts) = state (read_state k) w (head_of w) ts
 
 -- nothing may stand after it
 unfoldable pub whole : Found → Option Formula
-whole nothing = none
-whole (found f []) = some f
-whole (found f (w ∷ ts)) = none
+whole nothing = None
+whole (found f []) = Some f
+whole (found f (w ∷ ts)) = None
 
 -- the formula that a text of one line spells, if it spells one
 unfoldable pub read_formula : Text → Option Formula
 read_formula text =
-    cond (is_ended text && eqb (length (lines_of text)) 1) (whole (read_state (length (tokens_of text)) (tokens_of text))) none
+    cond (is_ended text && eqb (length (lines_of text)) 1) (whole (read_state (length (tokens_of text)) (tokens_of text))) None
 
 -- The same grammar once more, as the paper lists it: which tokens spell a formula. `Theorems` shows that the reader finds a formula exactly
 -- where the tokens spell one.
@@ -113,13 +112,13 @@ pub data Spells : Formula → List Text → Type 0 where
   spells_not : {a : Formula} {s : List Text} → Spells a s → Spells (negated a) (bytes "!" ∷ s)
   spells_both : {a b : Formula} {s t : List Text} → Spells a s → Spells b t → Spells (both a b) (bytes "&" ∷ s ++ t)
   spells_until : {a b : Formula} {s t : List Text} (sign threshold hours : Text) (r : Comparison) (p u : ℕ)
-      → comparison_of sign ≡ some r → number_of threshold ≡ some p → hundredths_of hours ≡ some u
+      → comparison_of sign ≡ Some r → number_of threshold ≡ Some p → hundredths_of hours ≡ Some u
       → Spells a s → Spells b t
       → Spells (chance r p (until u a b)) (bytes "P" ∷ sign ∷ threshold ∷ bytes "U" ∷ hours ∷ s ++ t)
   spells_next : {a : Formula} {s : List Text} (sign threshold : Text) (r : Comparison) (p : ℕ)
-      → comparison_of sign ≡ some r → number_of threshold ≡ some p → Spells a s
+      → comparison_of sign ≡ Some r → number_of threshold ≡ Some p → Spells a s
       → Spells (chance r p (next_move a)) (bytes "P" ∷ sign ∷ threshold ∷ bytes "X" ∷ s)
   spells_between : {a b : Formula} {s t : List Text} (sign threshold earlier later : Text) (r : Comparison) (p u v : ℕ)
-      → comparison_of sign ≡ some r → number_of threshold ≡ some p → hundredths_of earlier ≡ some u → hundredths_of later ≡ some v
+      → comparison_of sign ≡ Some r → number_of threshold ≡ Some p → hundredths_of earlier ≡ Some u → hundredths_of later ≡ Some v
       → Spells a s → Spells b t
       → Spells (chance r p (between u v a b)) (bytes "P" ∷ sign ∷ threshold ∷ bytes "V" ∷ earlier ∷ later ∷ s ++ t)

@@ -1,7 +1,6 @@
 -- "Hours with decimals": "The hours in a formula may now carry one or two decimals after a point, with no trailing zero: `8.25` and `8.5`
 -- are good, `8.50` breaks the grammar; the 10 digits count before the point." Assumes nothing.
-use Rattle.std.specs.Prelude.{ℕ, ◌+◌, ◌*◌, Bool, false, cond, not, ◌&&◌, List, [], ◌∷◌, eqb}
-use Rattle.std.proofs.Math.Option.{Option, none, some}
+use Rattle.std.specs.Prelude.{ℕ, ◌+◌, ◌*◌, Bool, false, cond, not, ◌&&◌, List, [], ◌∷◌, eqb, Option, None, Some}
 use Rattle.csl.specs.Text.{Text}
 use Rattle.csl.specs.Limits.{formula_digits, hour}
 use Rattle.csl.specs.Number.{is_digit, is_number, value_of}
@@ -25,10 +24,10 @@ decimals_of (d ∷ e ∷ s) = value_of (d ∷ e ∷ s)
 
 -- what the point sets apart: hours are a number, or a number and decimals
 unfoldable pub hundredths_in : List Text → Option ℕ
-hundredths_in [] = none
-hundredths_in (w ∷ []) = cond (is_number formula_digits w) (some (value_of w * hour)) none
-hundredths_in (w ∷ x ∷ []) = cond (is_number formula_digits w && is_decimals x) (some (value_of w * hour + decimals_of x)) none
-hundredths_in (w ∷ x ∷ y ∷ l) = none
+hundredths_in [] = None
+hundredths_in (w ∷ []) = cond (is_number formula_digits w) (Some (value_of w * hour)) None
+hundredths_in (w ∷ x ∷ []) = cond (is_number formula_digits w && is_decimals x) (Some (value_of w * hour + decimals_of x)) None
+hundredths_in (w ∷ x ∷ y ∷ l) = None
 
 -- "The reader of hours .. hands back hundredths": those that a token spells, if it spells hours
 unfoldable pub hundredths_of : Text → Option ℕ

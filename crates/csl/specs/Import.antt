@@ -1,8 +1,7 @@
 -- Import of PRISM's explicit files: "Operators model in PRISM. Read its transition file .. and its label file .. The result is our two texts".
 -- Assumes nothing.
-use Rattle.std.specs.Prelude.{◌≡◌, ℕ, zero, suc, Bool, true, false, cond, not, ◌&&◌, ◌||◌, length, get_or, leb, ltb, eqb}
+use Rattle.std.specs.Prelude.{◌≡◌, ℕ, zero, suc, Bool, true, false, cond, not, ◌&&◌, ◌||◌, length, get_or, leb, ltb, eqb, Option, None, Some}
 use mathlib.Core.List.{List, [], ◌∷◌, ◌++◌, map, head_d, tail}
-use Rattle.std.proofs.Math.Option.{Option, none, some}
 use Rattle.csl.specs.Text.{Text, bytes, same, every, any}
 use Rattle.csl.specs.Limits.{sheet_digits, sheet_bytes}
 use Rattle.csl.specs.Number.{is_number, value_of}
@@ -176,8 +175,8 @@ pub record Pages : Type 0 where
 
 -- turned back, with both buffers as they were; or each text at the front of its buffer, "and bytes beyond are unchanged"
 unfoldable pub ImportedBy : Option ℕ → Files → (before : Pages) → ImportAnswer → (after : Pages) → Type 0
-ImportedBy (some number) f before a after = (a ≡ import_refused number) × (after ≡ before)
-ImportedBy none f before a after =
+ImportedBy (Some number) f before a after = (a ≡ import_refused number) × (after ≡ before)
+ImportedBy None f before a after =
     (a ≡ imported (length (imported_moves f)) (length (imported_labels f)))
     × (after ≡ record { moves = written (imported_moves f) before.moves; labels = written (imported_labels f) before.labels })
 

@@ -1,8 +1,7 @@
 -- Turned-back jobs: "The lowest number that holds is given; a condition is put only to jobs that passed all lower ones in all three
 -- texts." But for 16, which is tested before 14. Each test below is put to the whole of what it tests, and says something only of a job that
 -- passed those before it. Assumes nothing.
-use Rattle.std.specs.Prelude.{ℕ, ◌*◌, Bool, true, false, cond, not, ◌&&◌, ◌||◌, List, [], ◌∷◌, ◌++◌, length, leb, ltb, eqb}
-use Rattle.std.proofs.Math.Option.{Option, none, some}
+use Rattle.std.specs.Prelude.{ℕ, ◌*◌, Bool, true, false, cond, not, ◌&&◌, ◌||◌, List, [], ◌∷◌, ◌++◌, length, leb, ltb, eqb, Option, None, Some}
 use Rattle.csl.specs.Text.{Text, among, any}
 use Rattle.csl.specs.Limits.{most_states, most_moves, most_rate, formula_bytes, sheet_bytes, most_nodes, most_levels, most_threshold, most_hundredths, most_rate_hundredths}
 use Rattle.csl.specs.Line.{later_lines}
@@ -34,8 +33,8 @@ abbrev pub job_chain : Job → Chain
 job_chain j = chain_of (job_sheet j)
 
 unfoldable pub formula_from : Option Formula → Formula
-formula_from none = always
-formula_from (some f) = f
+formula_from None = always
+formula_from (Some f) = f
 
 abbrev pub job_formula : Job → Formula
 job_formula j = formula_from (read_formula j.formula)
@@ -74,8 +73,8 @@ wrong_rate ms = any (λ m. eqb m.rate 0 || ltb most_rate (rates_out ms m.from)) 
 
 -- 10: "formula breaks the grammar"
 unfoldable pub is_missing : Option Formula → Bool
-is_missing none = true
-is_missing (some f) = false
+is_missing None = true
+is_missing (Some f) = false
 
 -- 11: "over 64 nodes or 16 deep"
 unfoldable pub large_formula : Formula → Bool
@@ -142,8 +141,8 @@ text_tests j =
 
 -- the number of the first that holds
 unfoldable pub first_of : List Test → Option ℕ
-first_of [] = none
-first_of (x ∷ xs) = cond x.holds (some x.number) (first_of xs)
+first_of [] = None
+first_of (x ∷ xs) = cond x.holds (Some x.number) (first_of xs)
 
 -- what the three texts alone are turned back with
 unfoldable pub text_refusal : Job → Option ℕ
@@ -159,8 +158,8 @@ pub data Outcome : Type 0 where
   accepted : Chain → Formula → ℕ → ℕ → Outcome
 
 unfoldable pub outcome_by : Job → Option ℕ → Outcome
-outcome_by j (some number) = refused number
-outcome_by j none = accepted (job_chain j) (job_formula j) (top_rate (job_chain j)) (depth_of (job_chain j) (job_formula j))
+outcome_by j (Some number) = refused number
+outcome_by j None = accepted (job_chain j) (job_formula j) (top_rate (job_chain j)) (depth_of (job_chain j) (job_formula j))
 
 unfoldable pub outcome : Job → Buffers ℕ → Outcome
 outcome j lent = outcome_by j (refusal j lent)

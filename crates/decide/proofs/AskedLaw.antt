@@ -16,19 +16,13 @@ use Rattle.vectors.specs.Owns.{Owns, owns_kept}
 use Rattle.formula.specs.Nodes.{kind_at}
 use Rattle.formula.specs.FormulaAt.{formula_at, formula_over, at_kind}
 use Rattle.formula.specs.declared.nodes.Kind.{Kind}
-use Rattle.formula.specs.declared.nodes.Node.{Node}
 use Rattle.decide.specs.Asked.{Marked, DecideAsked, formula_of, Decides}
 use Rattle.decide.specs.Rows.{rows_for}
-use Rattle.decide.specs.Enough.{levels_some}
 
 -- what a call leaves: the node's report, if it was asked
-abbrev pub Leaves : (mv ix l l' marks marks' : List ℕ) (nodes : List Node) (node limit n q r : ℕ) → Type 0
+abbrev pub Leaves : (mv ix l l' marks marks' : List ℕ) (nodes : List Kind) (node limit n q r : ℕ) → Type 0
 Leaves mv ix l l' marks marks' nodes node limit n q r =
     (a : DecideAsked mv ix l marks nodes node limit n q) → Decides a.c (formula_of a) n l l' marks marks' r
-
--- no node is asked with 0 levels
-pub leaves_none : {mv ix l marks : List ℕ} {nodes : List Node} {node limit n q r : ℕ} → limit ≡ 0 → Leaves mv ix l l marks marks nodes node limit n q r
-leaves_none z a = absurd (omega (arith, a.deep, levels_some (formula_of a)))
 
 -- the words of the labels' marks stay
 pub marked_kept : (c : Chain) (names : List Text) {l l' : List ℕ} {n : ℕ} {f g : ℕ → ℕ} → Marked c names l n → EndsStored f g n l l'
@@ -42,7 +36,7 @@ pub still_index : {c : Chain} {ix l l' : List ℕ} {n : ℕ} {f g : ℕ → ℕ}
     → IndexShows c ix l' (owns_from n) n
 still_index {n = n} i b = index_kept i (λ t h. b.after (owns_from n + t) (omega arith))
 
-module _ {mv ix l marks : List ℕ} {nodes : List Node} {node limit n q : ℕ} (a : DecideAsked mv ix l marks nodes node (suc limit) n q) where
+module _ {mv ix l marks : List ℕ} {nodes : List Kind} {node limit n q : ℕ} (a : DecideAsked mv ix l marks nodes node (suc limit) n q) where
   -- so many rows of those that the formula takes
   pub room_for : (k : ℕ) → k ≤ rows_for (formula_of a) → k * n ≤ length marks
   room_for k h = omega (arith, a.room, mul-le-mul_right n h)

@@ -46,4 +46,4 @@ module _ {mv ix l marks : List ℕ} {n q t u p : ℕ} (a : BetweenAsked mv ix l 
         → BetweenLeaves a r l' m d
     two_phases_decided b v w h k = b may_two_phases v w h k
 
-pub ruleset between_laws = (may_until_from_0, from_0_left, may_two_phases, two_phases_decided)
+pub ruleset between_laws = (from_0_left, two_phases_decided)

@@ -87,4 +87,4 @@ module _ {mv ix l marks : List ℕ} {o : Path} {p n q : ℕ} (a : ChanceAsked mv
         let i = b may_between (vs x) (vs y) rows.0 rows.1 in
         rw e (record { row = i.rows; report = i.report })
 
-pub ruleset chance_laws = (may_until, until_decided, may_next, next_decided, may_between, between_decided)
+pub ruleset chance_laws = (until_decided, next_decided, between_decided)

@@ -17,12 +17,13 @@ use Rattle.vectors.specs.Owns.{owns_kept}
 use Rattle.formula.specs.Nodes.{kind_at}
 use Rattle.formula.specs.Operands.{operands_of}
 use Rattle.formula.specs.FormulaAt.{formula_at, formula_over}
-use Rattle.formula.specs.declared.nodes.Node.{Node}
+use Rattle.formula.specs.declared.nodes.Kind.{Kind}
 use Rattle.formula.specs.declared.operands.Operands.{Operands}
 use Rattle.formula.specs.declared.operands.Operands.TheVariants.{None, One, Two}
 use Rattle.decide.specs.Asked.{DecideAsked, formula_of, Decides}
 use Rattle.decide.specs.Rows.{rows_of, RowLeft}
 use Rattle.decide.specs.Node.{NodeAsked, NodeDecided, NodeLeaves}
+use Rattle.decide.specs.Enough.{levels_some}
 use Rattle.decide.proofs.OperandsLaw.{operand_rows, OperandsLeft}
 use Rattle.decide.proofs.AskedLaw.{under, of_kind}
 
@@ -43,9 +44,13 @@ row_stands (Two x y) f n m₀ m₁ m₂ c d e t =
         let j : n + n ≤ k = ltb-false k (n + n) i in
         t.else k (λ b z. omega arith) (λ b z. omega arith) ∙ d k (omega arith) ∙ sym (c k h)
 
-module _ {mv ix l marks : List ℕ} {nodes : List Node} {node limit n q : ℕ} (a : DecideAsked mv ix l marks nodes node limit n q) (some : limit ≡ 0 → ⊥) where
+module _ {mv ix l marks : List ℕ} {nodes : List Kind} {node limit n q : ℕ} (a : DecideAsked mv ix l marks nodes node limit n q) where
+  -- there is a level to go down
+  pub level_there : 1 ≤ limit
+  level_there = omega (arith, a.deep, levels_some (formula_of a))
+
   more : limit ≡ suc (limit - 1)
-  more = omega arith
+  more = omega (arith, level_there)
 
   pub same_formula : formula_at a.names (suc (limit - 1)) nodes node ≡ formula_of a
   same_formula = ap (λ (z : ℕ). formula_at a.names z nodes node) (sym more)

@@ -139,4 +139,4 @@ module _ {mv ix l marks : List ℕ} {k : Kind} {n q : ℕ} (a : NodeAsked mv ix 
     chance_left t =
         by_kind (kind.Chance sign p o) e λ look h. chance_report a.c (comparison_of sign) p look o (t may_chance (λ x. found a.c (look x)) h)
 
-pub ruleset node_laws = (may_plain, always_left, may_label, label_left, negated_left, may_both, both_left, may_chance, chance_left)
+pub ruleset node_laws = (always_left, label_left, negated_left, both_left, chance_left)

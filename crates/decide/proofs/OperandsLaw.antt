@@ -19,7 +19,6 @@ use Rattle.formula.specs.FormulaAt.{formula_at, formula_over}
 use Rattle.formula.specs.declared.nodes.Path.TheVariants as path
 use Rattle.formula.specs.declared.nodes.Kind.{Kind}
 use Rattle.formula.specs.declared.nodes.Kind.TheVariants as kind
-use Rattle.formula.specs.declared.nodes.Node.{Node}
 use Rattle.formula.specs.declared.operands.Operands.{Operands}
 use Rattle.formula.specs.declared.operands.Operands.TheVariants.{None, One, Two}
 use Rattle.decide.specs.Asked.{DecideAsked, formula_of}
@@ -61,7 +60,7 @@ rows_left (One x) look = rows_some (look x)
 rows_left (Two x y) look = omega (arith, rows_some (look y))
 
 -- The operands of a node are decided: their rows hold their verdicts, the rows behind hold 0, and all words but the ends are as they were.
-pub record OperandsLeft {mv ix l marks : List ℕ} {nodes : List Node} {node limit n q : ℕ} (a : DecideAsked mv ix l marks nodes node (suc limit) n q)
+pub record OperandsLeft {mv ix l marks : List ℕ} {nodes : List Kind} {node limit n q : ℕ} (a : DecideAsked mv ix l marks nodes node (suc limit) n q)
     (l' marks' : List ℕ) : Type 0 where
   pub rows : RowsHold (operands_of (kind_at nodes node)) (λ x. found a.c (formula_at a.names limit nodes x)) marks' n
   pub clear : (k : ℕ) → rows_of (operands_of (kind_at nodes node)) * n ≤ k → at marks' k ≡ 0
@@ -69,7 +68,7 @@ pub record OperandsLeft {mv ix l marks : List ℕ} {nodes : List Node} {node lim
   pub same : length l' ≡ length l
   pub after : (k : ℕ) → values_from n ≤ k → at l' k ≡ at l k
 
-module _ {mv ix l marks : List ℕ} {nodes : List Node} {node limit n q : ℕ} (a : DecideAsked mv ix l marks nodes node (suc limit) n q)
+module _ {mv ix l marks : List ℕ} {nodes : List Kind} {node limit n q : ℕ} (a : DecideAsked mv ix l marks nodes node (suc limit) n q)
     (o : Operands) (is : o ≡ operands_of (kind_at nodes node)) where
   levels_are : (x : Operands) → o ≡ x → levels (formula_of a) ≡ levels_over x (λ y. levels (under a y))
   levels_are x e = ap levels (of_kind a (kind_at nodes node) refl) ∙ (over a.names (under a) (kind_at nodes node)).0 ∙ rw (← is, e) refl

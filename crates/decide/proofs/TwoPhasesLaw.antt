@@ -5,7 +5,6 @@ use mathlib.Core.Bool.{Bool, true, false, cond, not}
 use mathlib.Core.List.{List}
 use Prim.Native.Nat.{ℕ, ◌+◌, ◌*◌, ◌-◌, ◌/◌, ◌≤◌, ◌<◌}
 use native.Mathlib.Omega.{arith}
-use lib.ListN.{length}
 use Rattle.csl.specs.Limits.{billion}
 use Rattle.csl.specs.Formula.{Comparison}
 use Rattle.csl.specs.Chain.{Chain, top_rate}
@@ -122,9 +121,6 @@ module _ {mv l l₁ marks m₁ : List ℕ} {n q t u p e : ℕ} (a : TwoPhasesAsk
   -- so the row may be judged
   pub may_judge_pair : {l₂ : List ℕ} {d : ℕ} → Earlier mv m₁ n q t l₁ l₂ d → EndsIn n l₂
   may_judge_pair y = pair_in_range y (λ s. verdict_at (at marks s)) (λ s. verdict_at (at marks (n + s))) (λ s b. refl) (λ s b. refl)
-
-  pub pair_row : n ≤ length m₁
-  pair_row = omega (arith, a.held, z.same)
 
 -- and is, for whatever verdicts the rows hold
 pub two_phases_left : {mv l l₁ l₂ marks m₁ m₂ : List ℕ} {n q t u p d e : ℕ} {r : Comparison} → Until mv marks (rest marks n) n q (u - t) l l₁ e

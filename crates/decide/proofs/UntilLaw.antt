@@ -4,9 +4,6 @@ use mathlib.Core.List.{List}
 use Prim.Native.Nat.{ℕ, ◌+◌, ◌≤◌, ◌<◌}
 use native.Mathlib.Omega.{arith}
 use native.Mathlib.Nat.{zero-add}
-use mathlib.Core.Bool.{Bool, true, false}
-use lib.Dec.{ltb}
-use borrow.Author.Tests.{ltb-true, ltb-false}
 use Rattle.csl.specs.Formula.{Comparison, until_of}
 use Rattle.numbers.specs.Filled.{at, Filled, filled_else}
 use Rattle.numbers.specs.Part.{rest}
@@ -40,12 +37,7 @@ module _ {mv ix l l' marks : List ℕ} {n q t p d : ℕ} (a : UntilAsked mv ix l
 
 -- what is in neither of two rows is behind them
 behind_both : (n s : ℕ) → (0 ≤ s → s < 0 + n → ⊥) → (n ≤ s → s < n + n → ⊥) → n + n ≤ s
-behind_both n s x y = go (ltb s n) refl (ltb s (n + n)) refl
-  where
-    go : (a : Bool) → ltb s n ≡ a → (b : Bool) → ltb s (n + n) ≡ b → n + n ≤ s
-    go true e b f = absurd (x (omega arith) (omega (arith, ltb-true s n e)))
-    go false e true f = absurd (y (ltb-false s n e) (ltb-true s (n + n) f))
-    go false e false f = ltb-false s (n + n) f
+behind_both n s x y = omega arith
 
 -- and is, for whatever verdicts the rows hold
 module _ {mv ix l l' marks m₁ m₂ : List ℕ} {n q t p d : ℕ} {r : Comparison} (u : Until mv marks (rest marks n) n q t l l' d)

@@ -17,10 +17,8 @@ use Rattle.verdict_rows.specs.Row.{EndsIn}
 use Rattle.formula.specs.Nodes.{kind_at}
 use Rattle.formula.specs.Operands.{OperandsBefore}
 use Rattle.formula.specs.FormulaAt.{formula_at}
-use Rattle.formula.specs.Pass.{passed}
+use Rattle.formula.specs.Pass.{passed, Labels, Limits, Order, Load, NoSearch}
 use Rattle.formula.specs.declared.nodes.Kind.{Kind}
-use Rattle.formula.specs.declared.nodes.Node.{Node}
-use Rattle.formula.specs.declared.pass.Test.TheVariants.{Labels, Limits, Order, Load, NoSearch}
 use Rattle.decide.specs.Rows.{rows_for}
 
 -- the label marks among the vector words: in the word of each state, the bit of each name's place
@@ -38,7 +36,7 @@ pub record NodeFits (names : List Text) (q k : ℕ) (x : Kind) : Type 0 where
 -- A node is to be decided whose formula has no more levels than the limit: the words are prepared for a chain c whose labels have these names,
 -- its rates to the own state are in their column, the index of its moves is there if a node may need a search, and the marks have the rows that
 -- the formula takes, all of which but the first hold 0.
-pub record DecideAsked (mv ix l marks : List ℕ) (nodes : List Node) (node limit n q : ℕ) : Type 0 where
+pub record DecideAsked (mv ix l marks : List ℕ) (nodes : List Kind) (node limit n q : ℕ) : Type 0 where
   pub c : Chain
   pub names : List Text
   pub few : length names ≤ most_names
@@ -55,7 +53,7 @@ pub record DecideAsked (mv ix l marks : List ℕ) (nodes : List Node) (node limi
   pub clear : (k : ℕ) → n ≤ k → at marks k ≡ 0
 
 -- the formula of the node
-abbrev pub formula_of : {mv ix l marks : List ℕ} {nodes : List Node} {node limit n q : ℕ} → DecideAsked mv ix l marks nodes node limit n q → Formula
+abbrev pub formula_of : {mv ix l marks : List ℕ} {nodes : List Kind} {node limit n q : ℕ} → DecideAsked mv ix l marks nodes node limit n q → Formula
 formula_of {nodes = nodes} {node = node} {limit = limit} a = formula_at a.names limit nodes node
 
 -- The report of a formula f over a chain c: the first row holds its verdicts, the first 2 * n vector words its ends, and all else is as it

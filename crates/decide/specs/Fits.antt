@@ -5,9 +5,8 @@ use Rattle.std.proofs.Common.{arith, below_more}
 use Rattle.csl.specs.Text.{Text}
 use Rattle.formula.specs.Nodes.{kind_at}
 use Rattle.formula.specs.Operands.{OperandsBefore}
-use Rattle.formula.specs.Pass.{all_below, place_passed, all_passed}
+use Rattle.formula.specs.Pass.{all_below, place_passed, all_passed, Labels, Limits, Order, Load}
 use Rattle.formula.specs.declared.nodes.Nodes.{Nodes}
-use Rattle.formula.specs.declared.pass.Test.TheVariants.{Labels, Limits, Order, Load}
 use Rattle.decide.specs.Asked.{NodeFits}
 
 pub each_below : (p : ℕ → Bool) (n : ℕ) → all_below p n ≡ true → (k : ℕ) → k < n → p k ≡ true

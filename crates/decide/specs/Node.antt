@@ -15,10 +15,9 @@ use Rattle.vectors.specs.Owns.{Owns}
 use Rattle.verdict_rows.specs.Row.{EndsIn}
 use Rattle.formula.specs.Operands.{operands_of}
 use Rattle.formula.specs.FormulaAt.{formula_over}
-use Rattle.formula.specs.Pass.{passed}
+use Rattle.formula.specs.Pass.{passed, Labels, Limits, Order, Load, NoSearch}
 use Rattle.formula.specs.declared.nodes.Kind.{Kind}
 use Rattle.formula.specs.declared.operands.Operands.{Operands}
-use Rattle.formula.specs.declared.pass.Test.TheVariants.{Labels, Limits, Order, Load, NoSearch}
 use Rattle.decide.specs.Asked.{Marked}
 use Rattle.decide.specs.Rows.{rows_of, RowsHold, RowLeft}
 

@@ -10,53 +10,38 @@ mod chance;
 mod node;
 mod plain;
 mod rows;
+mod sheet;
 
 ghost use Rattle.decide.specs.Asked.{DecideAsked, formula_of, Decides};
 
 use formula::{Nodes, Operands};
+pub use sheet::LaidSheet;
 
 // The report of a node whose formula has at most so many levels.
+// The words and marks stay apart: of a struct of `&mut` slices a clause could say what is left only as `exit.0`, `exit.1.0` and so on.
 pub fn decide(
-    formula: Nodes,
+    sheet: LaidSheet,
+    formula: &Nodes,
     node: usize,
     levels: usize,
-    moves: &[u64],
-    index: &[u64],
     vectors: &mut [u64],
     marks: &mut [u8],
-    n: usize,
-    q: u64,
 ) -> usize
-    requires { DecideAsked moves.now index.now vectors.old marks.old formula.nodes node levels n q }
-    ensures { (a : DecideAsked moves.now index.now vectors.old marks.old formula.nodes node levels n q)
-        → Decides a.c (formula_of a) n vectors.old vectors.new marks.old marks.new result }
+    requires { DecideAsked sheet.moves.now sheet.index.now vectors.old marks.old formula.now.nodes node levels sheet.n sheet.q }
+    ensures { (a : DecideAsked sheet.entry.moves.now sheet.entry.index.now vectors.old marks.old formula.now.nodes node levels sheet.entry.n sheet.entry.q)
+        → Decides a.c (formula_of a) sheet.entry.n vectors.old vectors.new marks.old marks.new result }
 {
-    if levels == 0 {
-        return 0;
-    }
+    let kind = formula.nodes[node];
     let below = levels - 1;
-    let x = formula.nodes[node];
-    let kind = x.kind;
-    match formula::operands_of(kind) {
-        Operands::None => node::report(kind, moves, index, vectors, marks, n, q),
+    match kind.operands() {
+        Operands::None => {}
         Operands::One(a) => {
-            decide(formula, a, below, moves, index, vectors, marks, n, q);
-            node::report(kind, moves, index, vectors, marks, n, q)
+            decide(sheet, formula, a, below, vectors, marks);
         }
         Operands::Two(a, b) => {
-            decide(formula, a, below, moves, index, vectors, marks, n, q);
-            decide(
-                formula,
-                b,
-                below,
-                moves,
-                index,
-                vectors,
-                &mut marks[n..],
-                n,
-                q,
-            );
-            node::report(kind, moves, index, vectors, marks, n, q)
+            decide(sheet, formula, a, below, vectors, marks);
+            decide(sheet, formula, b, below, vectors, &mut marks[sheet.n..]);
         }
     }
+    node::report(sheet, kind, vectors, marks)
 }

@@ -10,7 +10,7 @@ use crate::bytes::write_byte;
 fn last_digit(number: u64) -> u8
     ensures { result ≡ 48 + number % 10 }
 {
-    48 + (number % 10) as u8
+    b'0' + (number % 10) as u8
 }
 
 // How many digits a number has.
@@ -18,13 +18,7 @@ pub fn decimal_length(number: u64) -> usize
     ensures value { result ≡ length (decimal number) }
     ensures within { result ≤ 20 }
 {
-    let mut rest = number;
-    let mut digits: usize = 1;
-    while 10 <= rest {
-        rest /= 10;
-        digits += 1;
-    }
-    digits
+    number.max(1).ilog10() as usize + 1
 }
 
 // The digits of a number.

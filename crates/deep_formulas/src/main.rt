@@ -2,7 +2,7 @@
 
 #![tactic(auto)]
 
-use formula::Test;
+use formula::Reading;
 
 // A line for each thing that is tried.
 fn say(rt: &impl Print, right: bool) {
@@ -13,27 +13,33 @@ fn say(rt: &impl Print, right: bool) {
     };
 }
 
+// The label names of all texts.
+const NAMES: &[u8] = b",up,dead";
+
 // The text is readable with so many nodes and levels.
 fn sized(rt: &impl Print, text: &[u8], nodes: usize, levels: usize) {
-    let r = formula::read(text, b",up,dead");
-    say(rt, r.readable && r.count == nodes && r.levels == levels);
+    let reading = formula::read(text, NAMES);
+    say(
+        rt,
+        reading.is_some_and(|r| r.count == nodes && r.levels == levels),
+    );
 }
 
 // The text breaks the grammar.
 fn broken(rt: &impl Print, text: &[u8]) {
-    let r = formula::read(text, b",up,dead");
-    say(rt, !r.readable);
+    say(rt, formula::read(text, NAMES).is_none());
 }
 
 // So many nodes are laid out of the text, and pass the tests of labels, limits, order and load.
 fn laid(rt: &impl Print, text: &[u8], count: usize) {
-    let r = formula::read(text, b",up,dead");
-    let row = r.nodes;
-    say(rt, row.count == count);
-    say(rt, formula::all_pass(row, Test::Labels(2)));
-    say(rt, formula::all_pass(row, Test::Limits));
-    say(rt, formula::all_pass(row, Test::Order));
-    say(rt, formula::all_pass(row, Test::Load(64000000)));
+    let Some(Reading { nodes, .. }) = formula::read(text, NAMES) else {
+        return say(rt, false);
+    };
+    say(rt, nodes.count == count);
+    say(rt, nodes.labels_known(2));
+    say(rt, nodes.within_limits());
+    say(rt, nodes.in_order());
+    say(rt, nodes.load_passes(64000000));
 }
 
 // 255 times `!` before a label; 127 times `&` before 128 labels; 63 times `P < 1 X` before a label.

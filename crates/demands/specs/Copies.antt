@@ -1,11 +1,11 @@
 -- What is asked of the writer of clean copies, of every two texts and every lent buffer. A copy is finished (csl's `Copied`) when its answer and the
 -- buffer are as the request has them; that is what `clean_copy::copy` promises, with no `requires`. What is stated here holds of every finished copy.
 -- Assumes nothing.
-use Rattle.std.specs.Prelude.{◌≡◌, Bool, true, false, cond, ◌&&◌, ◌||◌, List, [], ◌∷◌, ◌++◌, ◌⊎◌, ℕ, ◌≤◌, ◌<◌, leb, eqb, length, take}
+use Rattle.std.specs.Prelude.{◌≡◌, Bool, true, false, cond, ◌&&◌, ◌||◌, List, [], ◌∷◌, ◌++◌, ◌⊎◌, ℕ, ◌≤◌, ◌<◌, leb, eqb, length, take, Option, None, Some}
 use Rattle.std.proofs.Math.Path.{refl, ap}
-use Rattle.std.proofs.Common.{◌∙◌, arith, ltb-false, lt-ltb, le-ltb}
+use Rattle.std.proofs.Common.{◌∙◌, sym, arith, ltb-false, lt-ltb, le-ltb}
 use Rattle.std.proofs.Math.Logic.{inl, inr}
-use Rattle.std.proofs.Math.Option.{Option, none, some, some-ne-none}
+use Rattle.std.proofs.lemmas.Option.{none-some}
 use Rattle.std.proofs.Math.ListN.{drop}
 use Rattle.std.proofs.Math.Seq.{take_at, drop_at}
 use Rattle.csl.specs.Text.{Text, every}
@@ -25,8 +25,8 @@ is_copy_number k = leb 1 k && leb k 6 || eqb k 9 || eqb k 17
 differ : {A : Type 0} (k l : ℕ) (a : CopyAnswer) → a ≡ copy_refused k → a ≡ copied l → A
 differ k l a h i = let z : ◌≡◌ {A = ℕ} 0 1 = cc in absurd (omega arith)
 
-not_first : (b : Bool) → cond {A = Option ℕ} b (some 17) none ≡ none → b ≡ false
-not_first true h = absurd (some-ne-none 17 h)
+not_first : (b : Bool) → cond {A = Option ℕ} b (Some 17) None ≡ None → b ≡ false
+not_first true h = absurd (none-some 17 (sym h))
 not_first false h = refl
 
 same_length : (k l : ℕ) (a : CopyAnswer) → a ≡ copied k → a ≡ copied l → k ≡ l
@@ -42,28 +42,28 @@ module _ (moves labels : Text) (before : List ℕ) (a : CopyAnswer) (after : Lis
 
   -- the number of the first of "1 to 9" that holds, whatever buffer is lent; 17 where none of them holds and the buffer is too short, "tested last,
   -- with the buffer untouched"
-  refused_by : (number : ℕ) → copy_refusal moves labels (length before) ≡ some number → (a ≡ copy_refused number) × (after ≡ before)
+  refused_by : (number : ℕ) → copy_refusal moves labels (length before) ≡ Some number → (a ≡ copy_refused number) × (after ≡ before)
   unfolding CopiedBy
   refused_by number h = rw h at by
 
-  pub refused_by_the_sheet : (number : ℕ) → first_of (sheet_tests moves labels) ≡ some number → (a ≡ copy_refused number) × (after ≡ before)
+  pub refused_by_the_sheet : (number : ℕ) → first_of (sheet_tests moves labels) ≡ Some number → (a ≡ copy_refused number) × (after ≡ before)
   unfolding copy_refusal
   refused_by_the_sheet number h = refused_by number (first_found (sheet_tests moves labels) _ number h)
 
-  left : first_of (sheet_tests moves labels) ≡ none → copy_refusal moves labels (length before) ≡ first_of (test 17 (short_copy moves labels (length before)) ∷ [])
+  left : first_of (sheet_tests moves labels) ≡ None → copy_refusal moves labels (length before) ≡ first_of (test 17 (short_copy moves labels (length before)) ∷ [])
   unfolding copy_refusal
   left h = first_after (sheet_tests moves labels) _ (first_none (sheet_tests moves labels) h)
 
-  pub refused_with_17 : first_of (sheet_tests moves labels) ≡ none → length before < length copy → (a ≡ copy_refused 17) × (after ≡ before)
+  pub refused_with_17 : first_of (sheet_tests moves labels) ≡ None → length before < length copy → (a ≡ copy_refused 17) × (after ≡ before)
   unfolding first_of
   refused_with_17 h l = refused_by 17 (left h ∙ rw (lt-ltb (length before) (length copy) l) refl)
 
   -- and else the copy: "It answers with the copy's length; bytes beyond are unchanged."
-  pub copied_where_it_fits : first_of (sheet_tests moves labels) ≡ none → length copy ≤ length before
+  pub copied_where_it_fits : first_of (sheet_tests moves labels) ≡ None → length copy ≤ length before
       → (a ≡ copied (length copy)) × (take (length copy) after ≡ copy) × (drop (length copy) after ≡ drop (length copy) before)
   unfolding first_of CopiedBy written
   copied_where_it_fits h l =
-      let e : copy_refusal moves labels (length before) ≡ none = left h ∙ rw (le-ltb (length before) (length copy) l) refl in
+      let e : copy_refusal moves labels (length before) ≡ None = left h ∙ rw (le-ltb (length before) (length copy) l) refl in
       let k : (a ≡ copied (length copy)) × (after ≡ copy ++ drop (length copy) before) = rw e at by in (
         k.0,
         ap (take (length copy)) k.1 ∙ take_at copy (drop (length copy) before) (length copy) refl,
@@ -71,7 +71,7 @@ module _ (moves labels : Text) (before : List ℕ) (a : CopyAnswer) (after : Lis
       )
 
   -- one of the two, for all bytes and all lent lengths
-  numbered : (number : ℕ) → copy_refusal moves labels (length before) ≡ some number → is_copy_number number ≡ true
+  numbered : (number : ℕ) → copy_refusal moves labels (length before) ≡ Some number → is_copy_number number ≡ true
   unfolding copy_refusal sheet_tests every
   numbered number h = first_number is_copy_number (sheet_tests moves labels ++ (test 17 (short_copy moves labels (length before)) ∷ [])) number refl h
 
@@ -83,8 +83,8 @@ module _ (moves labels : Text) (before : List ℕ) (a : CopyAnswer) (after : Lis
 
   either : (o : Option ℕ) → copy_refusal moves labels (length before) ≡ o → CopiedBy o copy before a after → Refused ⊎ Written
   unfolding CopiedBy
-  either none e k = inr k
-  either (some number) e k = inl (number, k.0, numbered number e, k.1)
+  either None e k = inr k
+  either (Some number) e k = inl (number, k.0, numbered number e, k.1)
 
   pub one_copy_or_one_number : ((number : ℕ) × (a ≡ copy_refused number) × (is_copy_number number ≡ true) × (after ≡ before))
       ⊎ ((a ≡ copied (length copy)) × (after ≡ written copy before))
@@ -92,18 +92,18 @@ module _ (moves labels : Text) (before : List ℕ) (a : CopyAnswer) (after : Lis
 
   -- a copy is made of texts that passed alone, in a buffer that has room for it
   module _ (l : ℕ) (made : a ≡ copied l) where
-    none_refused : copy_refusal moves labels (length before) ≡ none
+    none_refused : copy_refusal moves labels (length before) ≡ None
     none_refused = go (copy_refusal moves labels (length before)) refl
       where
-        go : (o : Option ℕ) → copy_refusal moves labels (length before) ≡ o → o ≡ none
-        go none e = refl
-        go (some number) e = differ number l a (refused_by number e).0 made
+        go : (o : Option ℕ) → copy_refusal moves labels (length before) ≡ o → o ≡ None
+        go None e = refl
+        go (Some number) e = differ number l a (refused_by number e).0 made
 
     tested : NoneHolds (sheet_tests moves labels ++ (test 17 (short_copy moves labels (length before)) ∷ []))
     unfolding copy_refusal
     tested = first_none _ none_refused
 
-    pub made_of_texts_that_passed : first_of (sheet_tests moves labels) ≡ none
+    pub made_of_texts_that_passed : first_of (sheet_tests moves labels) ≡ None
     made_of_texts_that_passed = none_left (sheet_tests moves labels) _ tested
 
     fits : short_copy moves labels (length before) ≡ false
@@ -123,7 +123,7 @@ module _ (moves labels : Text) (before : List ℕ) (a : CopyAnswer) (after : Lis
         let r : length copy ≤ length before = ltb-false (length before) (length copy) fits in
         ap (λ (x : ℕ). take x after) length_is_that_of_the_copy.0 ∙ (copied_where_it_fits made_of_texts_that_passed r).1
 
-    pub read_back_it_passes : first_of (sheet_tests (take l after) labels) ≡ none
+    pub read_back_it_passes : first_of (sheet_tests (take l after) labels) ≡ None
     read_back_it_passes = rw what_stands_there (theorems.copies_are_accepted moves labels made_of_texts_that_passed)
 
     pub read_back_it_says_the_same_chain : chain_in (take l after) labels ≡ chain_in moves labels
@@ -136,6 +136,6 @@ module _ (moves labels : Text) (before : List ℕ) (a : CopyAnswer) (after : Lis
     it_is_its_own_copy = rw what_stands_there (theorems.copy_of_a_copy moves labels made_of_texts_that_passed)
 
 -- "two accepted move texts over the same labels have equal copies exactly when every pair has equal rate"
-pub equal_copies_exactly_when_rates_are_equal : (labels a b : Text) → first_of (sheet_tests a labels) ≡ none → first_of (sheet_tests b labels) ≡ none
+pub equal_copies_exactly_when_rates_are_equal : (labels a b : Text) → first_of (sheet_tests a labels) ≡ None → first_of (sheet_tests b labels) ≡ None
     → (EqualRates labels a b → copy_text a labels ≡ copy_text b labels) × (copy_text a labels ≡ copy_text b labels → EqualRates labels a b)
 equal_copies_exactly_when_rates_are_equal labels a b p q = theorems.equal_copies_exactly_when_rates_are_equal labels a b p q

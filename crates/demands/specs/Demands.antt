@@ -1,8 +1,7 @@
 -- The user's three demands, in their order and terms, of every job: three texts and seven lent buffers, of all bytes and all lengths. A job is
 -- finished (csl's `Finished`) when its answer and its buffers are as document 01 has them; that is what `checker::check` promises, with no
 -- `requires`. What is stated here holds of every finished job. Assumes nothing.
-use Rattle.std.specs.Prelude.{◌≡◌, Bool, false, ◌&&◌, List, ◌⊎◌, ℕ, suc, ◌+◌, ◌*◌, ◌-◌, ◌≤◌, ◌<◌, min, length, take, drop}
-use Rattle.std.proofs.Math.Option.{none, some}
+use Rattle.std.specs.Prelude.{◌≡◌, Bool, false, ◌&&◌, List, ◌⊎◌, ℕ, suc, ◌+◌, ◌*◌, ◌-◌, ◌≤◌, ◌<◌, min, length, take, drop, None, Some}
 use Rattle.csl.specs.Text.{Text}
 use Rattle.csl.specs.Limits.{billion, width_factor}
 use Rattle.csl.specs.Moves.{rates_out}
@@ -51,13 +50,13 @@ module _ (j : Job) (before : Buffers (List ℕ)) (a : Answer) (after : Buffers (
 
   -- Demand 2. "Read and decided as 01 defines: accepted when layouts and limits hold and only then; .. depth .. exact". The number is that of
   -- the first test that holds; the chain, with its rates and labels, and the formula are those of the texts (csl's job_chain, job_formula).
-  pub refused_by_its_number : (number : ℕ) → refusal j (lengths before) ≡ some number → a ≡ refused_with number
+  pub refused_by_its_number : (number : ℕ) → refusal j (lengths before) ≡ Some number → a ≡ refused_with number
   refused_by_its_number number h = proved.refused_so j before a after finished number h
 
-  pub accepted_with_its_depth : refusal j (lengths before) ≡ none → a ≡ accepted_with (depth_of (job_chain j) (job_formula j))
+  pub accepted_with_its_depth : refusal j (lengths before) ≡ None → a ≡ accepted_with (depth_of (job_chain j) (job_formula j))
   accepted_with_its_depth h = proved.accepted_so j before a after finished h
 
-  pub accepted_only_then : (d : ℕ) → a ≡ accepted_with d → refusal j (lengths before) ≡ none
+  pub accepted_only_then : (d : ℕ) → a ≡ accepted_with d → refusal j (lengths before) ≡ None
   accepted_only_then d h = proved.accepted_then j before a after finished d h
 
 -- "lines may stand in any order": the same lines in another order are the same job to all that is demanded, since what is finished for one is finished
@@ -69,9 +68,9 @@ finished_in_any_order a b h labels formula before x after k = same.finished_in_a
 -- "mark bytes of 17 × n, or nodes × n where that is less, shall be enough. Ends, depths, verdicts and listings equal those of the larger buffer": an
 -- accepted job is accepted with other marks that have as many bytes, and what is finished over the one is finished over the other, with the same
 -- answer and the same in every other buffer (that `checker::check` leaves the same bytes is `same_but_for_marks` of checker/specs/OtherMarks)
-module _ (j : Job) (x y : Buffers (List ℕ)) (same : ButForMarks x y) (accepts : refusal j (lengths x) ≡ none)
+module _ (j : Job) (x y : Buffers (List ℕ)) (same : ButForMarks x y) (accepts : refusal j (lengths x) ≡ None)
     (enough : min (17 * job_states j) (nodes (job_formula j) * job_states j) ≤ length y.marks) where
-  pub accepted_with_other_marks : refusal j (lengths y) ≡ none
+  pub accepted_with_other_marks : refusal j (lengths y) ≡ None
   accepted_with_other_marks = (proved.other_marks j x y same accepts enough).0
 
   pub finished_with_other_marks : (a : Answer) (left : Buffers (List ℕ)) → Finished j x a left
@@ -80,12 +79,12 @@ module _ (j : Job) (x y : Buffers (List ℕ)) (same : ButForMarks x y) (accepts 
 
 -- ".. rate, depth and labels exact": an accepted job is decided over the chain of its texts, at that chain's greatest exit rate. (That the
 -- code's q is this one is the field `q` of what `refusals::test_sheet` promises: `dimensions_of` of refusals/specs/Sheet.)
-pub decided_at_its_rate : (j : Job) (lent : Buffers ℕ) → refusal j lent ≡ none
+pub decided_at_its_rate : (j : Job) (lent : Buffers ℕ) → refusal j lent ≡ None
     → outcome j lent ≡ accepted (job_chain j) (job_formula j) (top_rate (job_chain j)) (depth_of (job_chain j) (job_formula j))
 decided_at_its_rate j lent h = proved.outcome_by_lem j lent h
 
 -- and each exit rate is the sum of the rates on the state's lines: for until, on those that go to other states; for `X`, on all
-module _ (j : Job) (lent : Buffers ℕ) (h : refusal j lent ≡ none) (s : ℕ) where
+module _ (j : Job) (lent : Buffers ℕ) (h : refusal j lent ≡ None) (s : ℕ) where
   pub exit_rates_by_lines : exit_rate (job_chain j) s ≡ rates_out (others (job_moves j)) s
   exit_rates_by_lines = proved.exit_by_lines j lent h s
 

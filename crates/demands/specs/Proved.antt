@@ -1,9 +1,9 @@
 -- What the demands say of the answer, from what a finished job is. Assumes nothing.
-use Rattle.std.specs.Prelude.{◌≡◌, Bool, false, List, ◌++◌, ◌⊎◌, ℕ, ◌*◌, ◌≤◌, min, length, take}
+use Rattle.std.specs.Prelude.{◌≡◌, Bool, false, List, ◌++◌, ◌⊎◌, ℕ, ◌*◌, ◌≤◌, min, length, take, Option, None, Some}
 use Rattle.std.proofs.Math.Path.{refl, ap}
 use Rattle.std.proofs.Common.{sym, ◌∙◌, arith, take_at, drop_at}
 use Rattle.std.proofs.Math.Logic.{inl, inr}
-use Rattle.std.proofs.Math.Option.{Option, none, some, some-ne-none}
+use Rattle.std.proofs.lemmas.Option.{none-some}
 use Rattle.std.proofs.Math.ListN.{drop}
 use Rattle.csl.specs.Moves.{rates_out}
 use Rattle.csl.specs.Formula.{Formula, always, label, negated, both, chance, nodes}
@@ -45,46 +45,46 @@ module _ (j : Job) (before : Buffers (List ℕ)) (a : Answer) (after : Buffers (
   By o = FinishedBy j (outcome_by j o) before a after
 
   abbrev Said : Option ℕ → Type 0
-  Said none = a ≡ accepted_with (depth_of (job_chain j) (job_formula j))
-  Said (some k) = a ≡ refused_with k
+  Said None = a ≡ accepted_with (depth_of (job_chain j) (job_formula j))
+  Said (Some k) = a ≡ refused_with k
 
   said : (o : Option ℕ) → By o → Said o
   unfolding FinishedBy outcome_by
-  said none f = f.answer
-  said (some k) f = f.answer
+  said None f = f.answer
+  said (Some k) f = f.answer
 
   by : Finished j before a after → By (refusal j (lengths before))
   unfolding Finished outcome
   by f = f
 
-  pub refused_so : Finished j before a after → (k : ℕ) → refusal j (lengths before) ≡ some k → a ≡ refused_with k
+  pub refused_so : Finished j before a after → (k : ℕ) → refusal j (lengths before) ≡ Some k → a ≡ refused_with k
   refused_so f k h = rw h at (said _ (by f))
 
-  pub accepted_so : Finished j before a after → refusal j (lengths before) ≡ none → a ≡ accepted_with (depth_of (job_chain j) (job_formula j))
+  pub accepted_so : Finished j before a after → refusal j (lengths before) ≡ None → a ≡ accepted_with (depth_of (job_chain j) (job_formula j))
   accepted_so f h = rw h at (said _ (by f))
 
-  pub accepted_then : Finished j before a after → (d : ℕ) → a ≡ accepted_with d → refusal j (lengths before) ≡ none
+  pub accepted_then : Finished j before a after → (d : ℕ) → a ≡ accepted_with d → refusal j (lengths before) ≡ None
   accepted_then f d h = go (refusal j (lengths before)) (said _ (by f))
     where
-      go : (o : Option ℕ) → Said o → o ≡ none
-      go none e = refl
-      go (some k) e = differ k d a e h
+      go : (o : Option ℕ) → Said o → o ≡ None
+      go None e = refl
+      go (Some k) e = differ k d a e h
 
   -- a number that no test has is not given
-  pub never : (number : ℕ) → (refusal j (lengths before) ≡ some number → ⊥) → Finished j before a after → a ≡ refused_with number → ⊥
+  pub never : (number : ℕ) → (refusal j (lengths before) ≡ Some number → ⊥) → Finished j before a after → a ≡ refused_with number → ⊥
   never number d f h = go (refusal j (lengths before)) refl (said _ (by f))
     where
       go : (o : Option ℕ) → refusal j (lengths before) ≡ o → Said o → ⊥
-      go none e k = differ number _ a h k
-      go (some n) e k = d (e ∙ ap (λ (x : ℕ). some x) (same_number n number a k h))
+      go None e k = differ number _ a h k
+      go (Some n) e k = d (e ∙ ap (λ (x : ℕ). Some x) (same_number n number a k h))
 
   answered : (o : Option ℕ) → refusal j (lengths before) ≡ o → By o
       → ((number : ℕ) × (a ≡ refused_with number) × (1 ≤ number) × (number ≤ 16) × (after ≡ before))
       ⊎ ((lower : ℕ → ℕ) × (upper : ℕ → ℕ) × (v : ℕ → Verdict) × (a ≡ accepted_with (depth_of (job_chain j) (job_formula j)))
       × TheReport j before after lower upper v)
   unfolding FinishedBy outcome_by
-  answered none e f = inr (f.lower, f.upper, f.verdict, f.answer, (f.buffers, f.reported))
-  answered (some k) e f =
+  answered None e f = inr (f.lower, f.upper, f.verdict, f.answer, (f.buffers, f.reported))
+  answered (Some k) e f =
       inl (k, f.answer, refusal_number_some j (lengths before) k e, refusal_number_most j (lengths before) k e, f.untouched)
 
   pub one_answer : Finished j before a after
@@ -94,8 +94,8 @@ module _ (j : Job) (before : Buffers (List ℕ)) (a : Answer) (after : Buffers (
   one_answer f = answered (refusal j (lengths before)) refl (by f)
 
 -- other marks than an accepted job is lent, if there are enough
-pub other_marks : (j : Job) (x y : Buffers (List ℕ)) → ButForMarks x y → refusal j (lengths x) ≡ none
-    → min (17 * job_states j) (nodes (job_formula j) * job_states j) ≤ length y.marks → (refusal j (lengths y) ≡ none)
+pub other_marks : (j : Job) (x y : Buffers (List ℕ)) → ButForMarks x y → refusal j (lengths x) ≡ None
+    → min (17 * job_states j) (nodes (job_formula j) * job_states j) ≤ length y.marks → (refusal j (lengths y) ≡ None)
     × ((a : Answer) (left : Buffers (List ℕ)) → Finished j x a left → (other : Buffers (List ℕ)) × Finished j y a other × ButForMarks left other)
 unfolding short_buffer
 other_marks j x y same h l =
@@ -127,18 +127,18 @@ module _ (j : Job) (before after : Buffers (List ℕ)) (lower upper : ℕ → �
   order_alone l h = theorems.no_other_listing_is_in_order lower upper (job_states j) l h ∙ sym order_front
 
 -- a job that no test turns back
-module _ (j : Job) (lent : Buffers ℕ) (h : refusal j lent ≡ none) where
+module _ (j : Job) (lent : Buffers ℕ) (h : refusal j lent ≡ None) where
   pub outcome_by_lem : outcome j lent ≡ accepted (job_chain j) (job_formula j) (top_rate (job_chain j)) (depth_of (job_chain j) (job_formula j))
   unfolding outcome outcome_by
   outcome_by_lem = rw h refl
 
-  texts_pass : text_refusal j ≡ none
+  texts_pass : text_refusal j ≡ None
   unfolding refusal text_refusal
   texts_pass = go (first_of (text_tests j)) refl
     where
-      go : (o : Option ℕ) → first_of (text_tests j) ≡ o → o ≡ none
-      go none e = refl
-      go (some k) e = absurd (some-ne-none k (sym (first_found (text_tests j) _ k e) ∙ h))
+      go : (o : Option ℕ) → first_of (text_tests j) ≡ o → o ≡ None
+      go None e = refl
+      go (Some k) e = absurd (none-some k (sym (sym (first_found (text_tests j) _ k e) ∙ h)))
 
   sound : Sound (job_sheet j)
   sound = (passed j texts_pass).sheet.sound

@@ -1,11 +1,11 @@
 -- The two-digit quotient: each step fits 64 bits, and the result is the quotient of the whole product. Assumes nothing.
 use mathlib.Core.Path.{◌≡◌, sym}
-use Prim.Native.Nat.{ℕ, ◌+◌, ◌*◌, ◌/◌, ◌%◌, ◌^◌, ◌≤◌}
+use Prim.Native.Nat.{ℕ, ◌+◌, ◌*◌, ◌/◌, ◌%◌}
 use native.Mathlib.Omega.{arith}
 use native.Mathlib.Nat.{div-add-mod', mod-lt, lt_of_mul-lt-mul_right}
 use mir.Val.{Fits}
 use mir.Syntax.{w64}
-use Rattle.numbers.specs.Hint.{eq_times, mul_bound, div_is}
+use Rattle.numbers.specs.Hint.{eq_times, div_is}
 use Rattle.division.specs.Contract.{MulDiv}
 
 -- the names of the code
@@ -21,26 +21,8 @@ t0 w x y = r1 w x y * 2097152 + w % 2097152 * x
 abbrev pub res : ℕ → ℕ → ℕ → ℕ
 res w x y = q1 w x y * 2097152 + t0 w x y / y
 
-pub t1_fits : {w x y : ℕ} → MulDiv w x y → Fits w64 (w / 2097152 * x)
-t1_fits {w} {x} p =
-    let h : w / 2097152 ≤ 2 ^ 21 = omega arith in
-    omega (arith, mul_bound h p.factor)
-
-pub high_fits : {w x y : ℕ} → MulDiv w x y → Fits w64 (r1 w x y * 2097152)
-high_fits {w} {x} p = omega (arith, mod-lt (w / 2097152 * x) p.some, p.divisor)
-
-pub low_fits : {w x y : ℕ} → MulDiv w x y → Fits w64 (w % 2097152 * x)
-low_fits {w} {x} p =
-    let h : w % 2097152 ≤ 2 ^ 21 = omega arith in
-    omega (arith, mul_bound h p.factor)
-
-pub t0_fits : {w x y : ℕ} → MulDiv w x y → Fits w64 (t0 w x y)
-t0_fits {w} {x} p =
-    let h : w % 2097152 ≤ 2 ^ 21 = omega arith in
-    omega (arith, mod-lt (w / 2097152 * x) p.some, p.divisor, mul_bound h p.factor)
-
 -- the whole product, in terms of the result
-pub whole : (w x y : ℕ) → w * x ≡ res w x y * y + t0 w x y % y
+whole : (w x y : ℕ) → w * x ≡ res w x y * y + t0 w x y % y
 whole w x y =
     omega (
       arith,
@@ -59,4 +41,4 @@ res_fits {w} {x} {y} p = record { fits = lt_of_mul-lt-mul_right y (omega (arith,
 pub q1_fits : {w x y : ℕ} → MulDiv w x y → Fits w64 (q1 w x y * 2097152)
 q1_fits p = omega (arith, res_fits p)
 
-pub ruleset muldiv_laws = (t1_fits, high_fits, low_fits, t0_fits, res_fits, q1_fits, is_quotient)
+pub ruleset muldiv_laws = (q1_fits, res_fits, is_quotient)

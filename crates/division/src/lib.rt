@@ -6,9 +6,10 @@ ghost use Rattle.std.specs.Prelude.{◌≡◌, ◌*◌, ◌/◌};
 ghost use Rattle.division.specs.Contract.{MulDiv};
 
 // A digit of 21 bits is below this.
-const DIGIT: u64 = 2097152;
+const DIGIT: u64 = 1 << 21;
 
 // The quotient of w * x by y, rounded down, where the product need not fit 64 bits: w is taken in two digits.
+#[tactic(auto, using(crate::proofs::MulDivLaw::muldiv_laws))]
 pub fn muldiv(w: u64, x: u64, y: u64) -> u64
     requires { MulDiv w x y }
     ensures { result ≡ w * x / y }

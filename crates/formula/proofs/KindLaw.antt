@@ -1,9 +1,10 @@
 -- The node that a token begins. Assumes nothing.
-use mathlib.Core.Path.{◌≡◌, refl, sym, ◌∙◌, ap}
+use mathlib.Core.Path.{◌≡◌, refl}
 use Prim.Native.Nat.{ℕ, suc, ◌-◌, ◌<◌}
 use native.Mathlib.Omega.{arith}
-use mathlib.Core.List.{List, []}
-use lib.ListN.{length, take, drop}
+use mathlib.Core.List.{List, [], tail}
+use Rattle.std.specs.Prelude.{Option, None, Some}
+use lib.ListN.{length, drop}
 use Rattle.csl.specs.Text.{Text}
 use Rattle.csl.specs.Line.{space}
 use Rattle.csl.specs.Limits.{most_nodes}
@@ -15,68 +16,38 @@ use Rattle.grammar.specs.Fixed.{read, read_leaves}
 use Rattle.verdicts.specs.Paper.{comparison_of}
 use Rattle.verdicts.specs.declared.comparison.Comparison.{Comparison}
 use Rattle.verdicts.specs.declared.comparison.Comparison.TheVariants.{Less, AtMost, AtLeast, More}
-use Rattle.texts.specs.Behind.{after_part}
+use Rattle.texts.specs.Behind.{after_part, behind_tail}
 use Rattle.texts.specs.Cut.{rest_is}
-use Rattle.grammar.specs.Tokens.{tokens, bytes_of, last_behind, one_tail, two_tail, three_tail}
-use Rattle.grammar.specs.Head.{head_meant}
-use Rattle.grammar.specs.declared.head.Head.{Head}
-use Rattle.grammar.specs.declared.head.Head.TheVariants.{Ampersand}
-use Rattle.grammar.specs.Chance.{BoundRead}
+use Rattle.grammar.specs.Tokens.{tokens, last_behind}
+use Rattle.grammar.specs.Chance.{bound_then, BoundRead}
 use Rattle.grammar.specs.declared.chance.Bound.{Bound}
-use Rattle.grammar.specs.declared.chance.Bound.TheVariants as bound
-use Rattle.grammar.specs.PathStart.{path_start_of, path_by_start}
+use Rattle.grammar.specs.PathStart.{path_start_of, behind_start, start_then, path_by_start}
 use Rattle.grammar.specs.declared.path_start.PathStart.{PathStart}
 use Rattle.grammar.specs.declared.path_start.PathStart.TheVariants as start
 use Rattle.formula.specs.Size.{size_of}
 use Rattle.formula.specs.declared.size.Size.{Size}
-use Rattle.formula.specs.declared.size.Size.TheVariants.{Read, Wrong}
-use Rattle.formula.specs.Nodes.{path_meant}
 use Rattle.formula.specs.Operands.{OperandsBefore}
 use Rattle.formula.specs.declared.nodes.Path.{Path}
 use Rattle.formula.specs.declared.nodes.Path.TheVariants as path
 use Rattle.formula.specs.declared.nodes.Kind.{Kind}
 use Rattle.formula.specs.declared.nodes.Kind.TheVariants as kind
 use Rattle.formula.specs.Listed.{held, path_held, kind_held}
-use Rattle.formula.specs.Laying.{nodes_found, nodes_at, nodes_behind, nodes_second, hollow, kind_found, chance_kind, head_kind, top_kind, behind_path, behind_own}
-use Rattle.formula.specs.Route.{route_kind, RouteRead}
-use Rattle.formula.specs.declared.lay.Route.{Route}
-use Rattle.formula.specs.declared.lay.Route.TheVariants as route
+use Rattle.formula.specs.Laying.{nodes_at, nodes_behind, nodes_second, hollow, kind_found, chance_kind, head_kind, top_kind}
+use Rattle.formula.specs.Route.{route_kind}
 
--- the size that was read has the nodes
-module _ (s : Text) (a : Size) (is : a ≡ size_of (read (tokens s))) where
-  pub nodes_wrong : a ≡ Wrong → 0 ≡ nodes_at (tokens s)
-  nodes_wrong e = go (read (tokens s)) (sym is ∙ e)
-    where
-      go : (g : Found) → size_of g ≡ Wrong → 0 ≡ nodes_found g
-      go nothing q = refl
-      go (found f rest) q = let z : ◌≡◌ {A = ℕ} 0 1 = cc in absurd (omega arith)
+-- how many nodes the second formula has, by what was read of the first
+abbrev second_by : Option Size → Text → ℕ
+second_by None s = 0
+second_by (Some z) s = nodes_at (tokens (drop (length s - z.left) s))
 
-  pub nodes_read : (l n d : ℕ) → a ≡ Read l n d → n ≡ nodes_at (tokens s)
-  nodes_read l n d e = go (read (tokens s)) (sym is ∙ e)
-    where
-      go : (g : Found) → size_of g ≡ Read l n d → n ≡ nodes_found g
-      go nothing q = let z : ◌≡◌ {A = ℕ} 0 1 = cc in absurd (omega arith)
-      go (found f rest) q = cc
+pub second_read : (s : Text) → nodes_second (tokens s) ≡ second_by (size_of (read (tokens s))) s
+second_read s = go (read_leaves (tokens s))
+  where
+    go : {fd : Found} → Leaves (tokens s) fd → nodes_behind fd ≡ second_by (size_of fd) s
+    go none_read = refl
+    go (left {rest = more} la) = rw (last_behind space s more la)
 
-  pub second_wrong : a ≡ Wrong → 0 ≡ nodes_second (tokens s)
-  second_wrong e = go (read (tokens s)) (sym is ∙ e)
-    where
-      go : (g : Found) → size_of g ≡ Wrong → 0 ≡ nodes_behind g
-      go nothing q = refl
-      go (found f rest) q = let z : ◌≡◌ {A = ℕ} 0 1 = cc in absurd (omega arith)
-
-  -- and m are the nodes of what is left
-  pub second_read : (l n d m : ℕ) → a ≡ Read l n d → m ≡ nodes_at (tokens (take (length s - (length s - l)) (drop (length s - l) s)))
-      → m ≡ nodes_second (tokens s)
-  second_read l n d m e k = go (read_leaves (tokens s)) (sym is ∙ e)
-    where
-      go : {g : Found} → Leaves (tokens s) g → size_of g ≡ Read l n d → m ≡ nodes_behind g
-      go none_read q = let z : ◌≡◌ {A = ℕ} 0 1 = cc in absurd (omega arith)
-      go (left {rest = more} {f = f} la) q =
-          let x : bytes_of more ≡ l = cc in
-          k ∙ rw (rest_is, ← x, last_behind space s more la)
-
-pub ruleset nodes_laws = (nodes_wrong, nodes_read, second_wrong, second_read)
+pub ruleset second_laws = (second_read, rest_is)
 
 held_again : (c : Comparison) → held (comparison_of c) ≡ c
 held_again Less = refl
@@ -84,82 +55,41 @@ held_again AtMost = refl
 held_again AtLeast = refl
 held_again More = refl
 
--- h is what the rest s begins with
-module _ (s : Text) (i : ℕ) (h : PathStart) (is : h ≡ path_start_of (tokens s)) where
-  pub route_none : h ≡ start.Missing → RouteRead i (tokens s) route.Missing
-  route_none e c p = rw (path_by_start, ← is, e)
+-- the path formula whose `P` is the node i, by what it begins with; n are the nodes of its second operand
+abbrev path_at : ℕ → Option PathStart → List Text → Option Path
+path_at i None ts = None
+path_at i (Some (start.Until t)) ts = Some (path.Until t (i - 1 - nodes_second (tail (tail ts))) (i - 1))
+path_at i (Some start.Next) ts = Some (path.Next (i - 1))
+path_at i (Some (start.Between t u)) ts = Some (path.Between t u (i - 1 - nodes_second (tail (tail (tail ts)))) (i - 1))
 
-  pub route_until : (t : ℕ) (u : Text) (n first second : ℕ) → h ≡ start.Until t → u ≡ after_part space (after_part space s)
-      → n ≡ nodes_second (tokens u) → first ≡ i - suc n → second ≡ i - 1 → RouteRead i (tokens s) (route.Is (path.Until t first second))
-  unfolding pair and_then
-  route_until t u n first second e v q x y c p = rw (path_by_start, ← is, e, two_tail s u v, ← q, held_again, x, y)
+pub path_kind : (i : ℕ) (c : Comparison) (p : ℕ) (ts : List Text)
+    → kind_found i (path hollow (comparison_of c) p ts) ≡ route_kind c p (path_at i (path_start_of ts) ts)
+unfolding pair single and_then
+path_kind i c p ts = rw path_by_start (go (path_start_of ts))
+  where
+    less : (n : ℕ) → i - suc n ≡ i - 1 - n
+    less n = omega arith
 
-  pub route_next : (place : ℕ) → h ≡ start.Next → place ≡ i - 1 → RouteRead i (tokens s) (route.Is (path.Next place))
-  unfolding single and_then
-  route_next place e x c p = rw (path_by_start, ← is, e, held_again, x)
+    go : (h : Option PathStart) → kind_found i (start_then h hollow (comparison_of c) p (behind_start h ts)) ≡ route_kind c p (path_at i h ts)
+    go None = refl
+    go (Some (start.Until t)) = rw (held_again, less)
+    go (Some start.Next) = rw held_again
+    go (Some (start.Between t u)) = rw (held_again, less)
 
-  pub route_between : (t v : ℕ) (u : Text) (n first second : ℕ) → h ≡ start.Between t v → u ≡ after_part space (after_part space (after_part space s))
-      → n ≡ nodes_second (tokens u) → first ≡ i - suc n → second ≡ i - 1 → RouteRead i (tokens s) (route.Is (path.Between t v first second))
-  unfolding pair and_then
-  route_between t v u n first second e w q x y c p = rw (path_by_start, ← is, e, three_tail s u w, ← q, held_again, x, y)
+pub ruleset path_laws = (path_kind, behind_tail)
 
-pub ruleset route_laws = (route_none, route_until, route_next, route_between)
+-- the node of a `P`, by the comparison and the threshold that were read
+abbrev bound_kind : ℕ → Option Bound → List Text → Kind
+bound_kind i None ts = kind.Always
+bound_kind i (Some b) ts = kind_found i (path hollow (comparison_of b.comparison) b.threshold (tail (tail ts)))
 
--- b are the comparison and the threshold at the start of the rest s
-module _ (s : Text) (i : ℕ) (b : Bound) (is : BoundRead (tokens s) b) where
-  pub chance_unbound : b ≡ bound.Missing → kind.Always ≡ chance_kind i (tokens s)
-  unfolding state
-  chance_unbound e = rw (is (path hollow), e)
-
-  -- and r the path formula behind them, at the start of the rest t
-  module _ (c : Comparison) (p : ℕ) (e : b ≡ bound.Is c p) (t : Text) (behind : t ≡ after_part space (after_part space s)) (r : Route)
-      (then : RouteRead i (tokens t) r) where
-    by_route : route_kind c p r ≡ chance_kind i (tokens s)
-    unfolding state
-    by_route = rw (is (path hollow), e, two_tail s t behind) (sym (then c p))
-
-    pub chance_none : r ≡ route.Missing → kind.Always ≡ chance_kind i (tokens s)
-    chance_none k = sym (ap (route_kind c p) k) ∙ by_route
-
-    pub chance_some : (w : Path) → r ≡ route.Is w → kind.Chance c p w ≡ chance_kind i (tokens s)
-    chance_some w k = sym (ap (route_kind c p) k) ∙ by_route
-
-pub ruleset chance_laws = (chance_unbound, chance_none, chance_some)
-
--- h is the kind of the first token w
-module _ (names : List Text) (i : ℕ) (w : Text) (ts : List Text) (h : Head) (is : head_meant h ≡ head_of w) where
-  pub top_is : (g : Head) (k : Kind) → h ≡ g → k ≡ head_kind names i w (head_meant g) ts → k ≡ top_kind names i w ts
-  top_is g k e q = rw (← is, e) q
-
-  pub top_both : (n first second : ℕ) → h ≡ Ampersand → n ≡ nodes_second ts → first ≡ i - suc n → second ≡ i - 1
-      → kind.Both first second ≡ top_kind names i w ts
-  top_both n first second e q x y = rw (← is, e, x, y, q)
-
-pub ruleset top_laws = (top_is, top_both)
-
--- o is a path formula, and s the rest that its own tokens begin
-module _ (o : Path) (s : Text) where
-  pub own_until : (t x y : ℕ) (u : Text) → o ≡ path.Until t x y → u ≡ after_part space (after_part space s)
-      → tokens u ≡ behind_path (path_meant o) (tokens s)
-  own_until t x y u e q = rw (e, two_tail s u q)
-
-  pub own_next : (x : ℕ) (u : Text) → o ≡ path.Next x → u ≡ after_part space s → tokens u ≡ behind_path (path_meant o) (tokens s)
-  own_next x u e q = rw (e, one_tail s u q)
-
-  pub own_between : (t v x y : ℕ) (u : Text) → o ≡ path.Between t v x y → u ≡ after_part space (after_part space (after_part space s))
-      → tokens u ≡ behind_path (path_meant o) (tokens s)
-  own_between t v x y u e q = rw (e, three_tail s u q)
-
--- k is a node's kind, and s the rest behind its first token
-module _ (k : Kind) (s : Text) where
-  pub own_plain : (g : Kind) → k ≡ g → tokens s ≡ behind_own g (tokens s) → tokens s ≡ behind_own k (tokens s)
-  own_plain g e q = rw e q
-
-  pub own_chance : (c : Comparison) (p : ℕ) (o : Path) (t u : Text) → k ≡ kind.Chance c p o → t ≡ after_part space (after_part space s)
-      → tokens u ≡ behind_path (path_meant o) (tokens t) → tokens u ≡ behind_own k (tokens s)
-  own_chance c p o t u e q r = rw (e, two_tail s t q) r
-
-pub ruleset own_laws = (own_until, own_next, own_between, own_plain, own_chance)
+pub chance_read : (i : ℕ) (ts : List Text) (b : Option Bound) → BoundRead ts b → chance_kind i ts ≡ bound_kind i b ts
+unfolding state
+chance_read i ts b h = rw (h (path hollow)) (go b)
+  where
+    go : (b : Option Bound) → kind_found i (bound_then b (path hollow) (tail (tail ts))) ≡ bound_kind i b ts
+    go None = refl
+    go (Some b) = refl
 
 -- its operands stand in the row where it does
 module _ (i n : ℕ) (h : i < most_nodes) where

@@ -4,15 +4,15 @@ use Prim.Native.Nat.{ℕ, zero, suc, ◌+◌, ◌-◌, ◌≤◌}
 use native.Mathlib.Omega.{arith}
 use mathlib.Core.List.{List, [], ◌∷◌, ◌++◌, head_d, tail}
 use lib.ListN.{length, drop, set, replicate, length-append}
+use Rattle.std.specs.Prelude.{Some, None}
 use Rattle.csl.specs.Text.{Text}
 use Rattle.csl.specs.Limits.{most_nodes}
 use Rattle.csl.specs.Formula.{Formula, always, label, negated, both, chance, until, next_move, between, nodes, nodes_in}
 use Rattle.csl.specs.Grammar.{Found, nothing, found, and_then, single, pair, Head, truth, name, bang, ampersand, chances, other, head_of, state, read_state}
 use Rattle.grammar.specs.Left.{Leaves, left, last_length}
 use Rattle.grammar.specs.Fixed.{read, read_next, read_leaves}
-use Rattle.grammar.specs.declared.path_start.PathStart.TheVariants.{Until, Next, Between, Missing}
-use Rattle.formula.specs.Nodes.{node, blank}
-use Rattle.formula.specs.declared.nodes.Node.{Node}
+use Rattle.grammar.specs.declared.path_start.PathStart.TheVariants.{Until, Next, Between}
+use Rattle.formula.specs.Nodes.{blank}
 use Rattle.formula.specs.Listed.{kind_held, listed, listed_in, stored}
 use Rattle.formula.specs.Stands.{length_listed}
 use Rattle.formula.specs.Laying.{nodes_found, nodes_behind, nodes_second, hollow, behind_two, top_kind, behind_own, awaiting, laying, laid}
@@ -20,11 +20,12 @@ use Rattle.formula.proofs.TopLaw.{ChanceAt, broken, bounded, chance_at}
 use Rattle.formula.proofs.PutLaw.{put, put_append, put_last, put_start}
 use Rattle.formula.specs.Waiting.{waiting_room}
 use Rattle.formula.proofs.WaitLaw.{waits_first}
+use Rattle.formula.specs.declared.nodes.Kind.{Kind}
 
 module _ (names : List Text) where
   -- f and the tokens behind it are read from ts: where the place of f's own node waits first, its nodes are put from place b on
   abbrev Lays : List Text → Formula → List Text → Type 0
-  Lays ts f rest = (k b : ℕ) (p : List ℕ) (ns : List Node)
+  Lays ts f rest = (k b : ℕ) (p : List ℕ) (ns : List Kind)
       → laying names (k + nodes f) ((b + nodes f - 1) ∷ p) ts ns ≡ laying names k p rest (put b (listed names f b) ns)
 
   -- so it is for all tokens of at most that number
@@ -39,16 +40,16 @@ module _ (names : List Text) where
   two_shorter ts = omega (arith, one_shorter (tail ts), one_shorter ts)
 
   -- one node, put at the place that waits first
-  one_node : (w : Text) (ts : List Text) (k i : ℕ) (p : List ℕ) (ns : List Node)
+  one_node : (w : Text) (ts : List Text) (k i : ℕ) (p : List ℕ) (ns : List Kind)
       → laying names (suc k) (i ∷ p) (w ∷ ts) ns
-      ≡ laying names k (awaiting (top_kind names i w ts) p) (behind_own (top_kind names i w ts) ts) (set ns i (node (top_kind names i w ts)))
+      ≡ laying names k (awaiting (top_kind names i w ts) p) (behind_own (top_kind names i w ts) ts) (set ns i (top_kind names i w ts))
   unfolding laying head_d
   one_node w ts k i p ns = refl
 
   -- a node over one operand, which begins the tokens us behind its own
   over_one_lem : (m : ℕ) → Upto m → (w : Text) (ts us : List Text) → length us ≤ m → (f a : Formula) (rest : List Text)
       → nodes f ≡ 1 + nodes a
-      → ((b : ℕ) → listed names f b ≡ listed names a b ++ (node (kind_held names (b + nodes a) (nodes a) f) ∷ []))
+      → ((b : ℕ) → listed names f b ≡ listed names a b ++ (kind_held names (b + nodes a) (nodes a) f ∷ []))
       → ((j : ℕ) → top_kind names j w ts ≡ kind_held names j (nodes a) f)
       → ((j : ℕ) → behind_own (kind_held names j (nodes a) f) ts ≡ us)
       → ((j : ℕ) (p : List ℕ) → awaiting (kind_held names j (nodes a) f) p ≡ (j - 1) ∷ p)
@@ -72,7 +73,7 @@ module _ (names : List Text) where
   over_two_lem : (m : ℕ) → Upto m → (w : Text) (ts us : List Text) → length us ≤ m → (f a c : Formula) (more rest : List Text)
       → nodes f ≡ 1 + (nodes a + nodes c)
       → ((b : ℕ) → listed names f b
-      ≡ (listed names a b ++ listed names c (b + nodes a)) ++ (node (kind_held names (b + (nodes a + nodes c)) (nodes c) f) ∷ []))
+      ≡ (listed names a b ++ listed names c (b + nodes a)) ++ (kind_held names (b + (nodes a + nodes c)) (nodes c) f ∷ []))
       → ((j : ℕ) → top_kind names j w ts ≡ kind_held names j (nodes c) f)
       → ((j : ℕ) → behind_own (kind_held names j (nodes c) f) ts ≡ us)
       → ((j : ℕ) (p : List ℕ) → awaiting (kind_held names j (nodes c) f) p ≡ (j - suc (nodes c)) ∷ (j - 1) ∷ p)
@@ -105,7 +106,7 @@ module _ (names : List Text) where
   -- so for each that csl's `single` makes of one operand, and its `pair` of two
   module _ (m : ℕ) (ih : Upto m) (w : Text) (ts us : List Text) (h : length us ≤ m) (make : Formula → Formula)
       (size : (a : Formula) → nodes (make a) ≡ 1 + nodes a)
-      (row : (a : Formula) (b : ℕ) → listed names (make a) b ≡ listed names a b ++ (node (kind_held names (b + nodes a) (nodes a) (make a)) ∷ []))
+      (row : (a : Formula) (b : ℕ) → listed names (make a) b ≡ listed names a b ++ (kind_held names (b + nodes a) (nodes a) (make a) ∷ []))
       (top : (a : Formula) (j : ℕ) → top_kind names j w ts ≡ kind_held names j (nodes a) (make a))
       (own : (a : Formula) (j : ℕ) → behind_own (kind_held names j (nodes a) (make a)) ts ≡ us)
       (one_waits : (a : Formula) (j : ℕ) (p : List ℕ) → awaiting (kind_held names j (nodes a) (make a)) p ≡ (j - 1) ∷ p) where
@@ -124,7 +125,7 @@ module _ (names : List Text) where
       (size : (a c : Formula) → nodes (make a c) ≡ 1 + (nodes a + nodes c))
       (row : (a c : Formula) (b : ℕ)
       → listed names (make a c) b
-      ≡ (listed names a b ++ listed names c (b + nodes a)) ++ (node (kind_held names (b + (nodes a + nodes c)) (nodes c) (make a c)) ∷ []))
+      ≡ (listed names a b ++ listed names c (b + nodes a)) ++ (kind_held names (b + (nodes a + nodes c)) (nodes c) (make a c) ∷ []))
       (top : (a c : Formula) (j : ℕ) → nodes_second us ≡ nodes c → top_kind names j w ts ≡ kind_held names j (nodes c) (make a c))
       (own : (a c : Formula) (j : ℕ) → behind_own (kind_held names j (nodes c) (make a c)) ts ≡ us)
       (both-wait : (a c : Formula) (j : ℕ) (p : List ℕ)
@@ -151,7 +152,7 @@ module _ (names : List Text) where
 
   -- a node of each kind
   module _ (m : ℕ) (ih : Upto m) (w : Text) (ts : List Text) (h : length ts ≤ m) (f : Formula) (rest : List Text) where
-    leaf_lays : (g : Formula) → nodes g ≡ 1 → ((b : ℕ) → listed names g b ≡ node (top_kind names b w ts) ∷ [])
+    leaf_lays : (g : Formula) → nodes g ≡ 1 → ((b : ℕ) → listed names g b ≡ top_kind names b w ts ∷ [])
         → ((b : ℕ) → behind_own (top_kind names b w ts) ts ≡ ts) → ((b : ℕ) (p : List ℕ) → awaiting (top_kind names b w ts) p ≡ p)
         → found g ts ≡ found f rest → Lays (w ∷ ts) f rest
     unfolding put
@@ -166,18 +167,18 @@ module _ (names : List Text) where
     chance_lays : head_of w ≡ chances → state read w chances ts ≡ found f rest → ChanceAt ts → Lays (w ∷ ts) f rest
     unfolding nodes nodes_in listed listed_in single pair and_then
     chance_lays e p (broken b) = let q = b read w in let z : ◌≡◌ {A = ℕ} 0 1 = cc in absurd (omega arith)
-    chance_lays e p (bounded c l Missing b) = let q = b read w in let z : ◌≡◌ {A = ℕ} 0 1 = cc in absurd (omega arith)
-    chance_lays e p (bounded c l Next b) =
+    chance_lays e p (bounded c l None b) = let q = b read w in let z : ◌≡◌ {A = ℕ} 0 1 = cc in absurd (omega arith)
+    chance_lays e p (bounded c l (Some Next) b) =
         let us = tail (behind_two ts) in
         let k : length us ≤ m = omega (arith, one_shorter (behind_two ts), two_shorter ts) in
         single_lays m ih w ts us k (λ x. chance c l (next_move x)) (λ x. refl) (λ x b. refl) (λ x j. rw (e, b hollow [])) (λ x j. refl)
         (λ x j q. refl) f rest (sym (b read w) ∙ p)
-    chance_lays e p (bounded c l (Until t) b) =
+    chance_lays e p (bounded c l (Some (Until t)) b) =
         let us = behind_two (behind_two ts) in
         let k : length us ≤ m = omega (arith, two_shorter (behind_two ts), two_shorter ts) in
         pair_lays m ih w ts us k (λ x y. chance c l (until t x y)) (λ x y. refl) (λ x y b. refl) (λ x y j n. rw (e, b hollow [], n))
         (λ x y j. refl) (λ x y j q. refl) f rest (sym (b read w) ∙ p)
-    chance_lays e p (bounded c l (Between t v) b) =
+    chance_lays e p (bounded c l (Some (Between t v)) b) =
         let us = tail (behind_two (behind_two ts)) in
         let k : length us ≤ m = omega (arith, one_shorter (behind_two (behind_two ts)), two_shorter (behind_two ts), two_shorter ts) in
         pair_lays m ih w ts us k (λ x y. chance c l (between t v x y)) (λ x y. refl) (λ x y b. refl) (λ x y j n. rw (e, b hollow [], n))
@@ -212,4 +213,4 @@ module _ (names : List Text) where
       let n : most_nodes ≡ length (listed names f 0) + (most_nodes - nodes f) = omega (arith, length_listed names f 0) in
       let row = rw e at (lays (length ts) ts (omega arith) f [] q 0 0 (drop 65 (replicate waiting_room 0)) (replicate most_nodes blank)) in
       let all = ap (λ (k : ℕ). put 0 (listed names f 0) (replicate k blank)) n ∙ put_start (listed names f 0) blank (most_nodes - nodes f) in
-      ap (λ (x : List Node). record { nodes = x; count = nodes f }) (rw (waits_first (nodes f - 1)) (row ∙ all))
+      ap (λ (x : List Kind). record { nodes = x; count = nodes f }) (rw (waits_first (nodes f - 1)) (row ∙ all))

@@ -9,11 +9,10 @@ use Rattle.csl.specs.Limits.{most_nodes}
 use Rattle.csl.specs.Line.{space, parts}
 use Rattle.texts.specs.Behind.{behind_first, after_part, parts_first, behind_tail}
 use Rattle.grammar.specs.Tokens.{tokens}
-use Rattle.formula.specs.declared.nodes.Node.{Node}
 use Rattle.formula.specs.declared.nodes.Kind.{Kind}
 use Rattle.formula.specs.declared.nodes.Nodes.{Nodes}
 use Rattle.formula.specs.declared.waiting.Waiting.{Waiting}
-use Rattle.formula.specs.Nodes.{node, blank}
+use Rattle.formula.specs.Nodes.{blank}
 use Rattle.formula.specs.Waiting.{waiting_room, waits, nothing_waits, wait_for, wait_over}
 use Rattle.formula.specs.Laying.{top_kind, behind_own, awaiting, laying, laid}
 use Rattle.formula.proofs.KindLaw.{top_below}
@@ -31,22 +30,22 @@ pub record Underway (names : List Text) (count : ℕ) (ts : List Text) (row : No
 
 module _ (names : List Text) where
   -- where there is no token, an empty one is laid
-  some_laying : (k : ℕ) (ps : List ℕ) (ts : List Text) (ns : List Node) → laying names k ps (head_d ts [] ∷ tail ts) ns ≡ laying names k ps ts ns
+  some_laying : (k : ℕ) (ps : List ℕ) (ts : List Text) (ns : List Kind) → laying names k ps (head_d ts [] ∷ tail ts) ns ≡ laying names k ps ts ns
   unfolding laying head_d
   some_laying zero ps ts ns = refl
   some_laying (suc k) ps ts ns = refl
 
-  one_laid : (k : ℕ) (ps : List ℕ) (w : Text) (ts : List Text) (ns : List Node) (i : ℕ) (kd : Kind) → head_d ps 0 ≡ i → kd ≡ top_kind names i w ts
-      → laying names k (awaiting kd (tail ps)) (behind_own kd ts) (set ns i (node kd)) ≡ laying names (suc k) ps (w ∷ ts) ns
+  one_laid : (k : ℕ) (ps : List ℕ) (w : Text) (ts : List Text) (ns : List Kind) (i : ℕ) (kd : Kind) → head_d ps 0 ≡ i → kd ≡ top_kind names i w ts
+      → laying names k (awaiting kd (tail ps)) (behind_own kd ts) (set ns i kd) ≡ laying names (suc k) ps (w ∷ ts) ns
   unfolding laying head_d
   one_laid k ps w ts ns i kd e f = rw (f, ← e)
 
-  pub lay_start : (count : ℕ) (line w s : Text) (p : ℕ) (waiting : Waiting) → count ≤ most_nodes → p ≡ count - 1 → waiting ≡ wait_for p nothing_waits
+  pub lay_start : (count left : ℕ) (line w s : Text) (p : ℕ) (waiting : Waiting) → left ≡ count → count ≤ most_nodes → p ≡ count - 1 → waiting ≡ wait_for p nothing_waits
       → w ≡ head_d (parts space line) [] → s ≡ behind_first space line
-      → Underway names count (parts space line) (record { nodes = replicate most_nodes blank; count = count }) waiting w s count
+      → Underway names count (parts space line) (record { nodes = replicate most_nodes blank; count = count }) waiting w s left
   unfolding head_d
-  lay_start count line w s p waiting h q v e f =
-      rw (v, q)
+  lay_start count left line w s p waiting l h q v e f =
+      rw (l, v, q)
       (record {
         long = refl;
         counted = refl;
@@ -64,26 +63,27 @@ module _ (names : List Text) where
     pub lay_place : (i : ℕ) → i ≡ get_or waiting.places waiting.from 0 → i < most_nodes
     lay_place i e = rw e (u.sound.below waiting.from)
 
-    -- the node k at the place i, and behind its own tokens the rest, in it v and t
-    pub lay_on : (i : ℕ) (k : Kind) (more : Waiting) (rest v t : Text) → 0 < left → i ≡ get_or waiting.places waiting.from 0
-        → k ≡ top_kind names i w (tokens s) → more ≡ wait_over k (record { places = waiting.places; from = waiting.from + 1 })
+    -- the k at the place i, and behind its own tokens the rest, in it v and t
+    pub lay_on : (i : ℕ) (k : Kind) (fewer more : Waiting) (rest v t : Text) (after : ℕ) → after + 1 ≡ left
+        → i ≡ get_or waiting.places waiting.from 0 → fewer ≡ record { places = waiting.places; from = waiting.from + 1 }
+        → k ≡ top_kind names i w (tokens s) → more ≡ wait_over k fewer
         → tokens rest ≡ behind_own k (tokens s) → v ≡ head_d (tokens rest) [] → t ≡ after_part space rest
-        → Underway names count ts (record { nodes = set row.nodes i (node k); count = row.count }) more v t (left - 1)
-    lay_on i k more rest v t h e f g o x y =
-        let room : waiting.from < waiting_room = lay_room h in
+        → Underway names count ts (record { nodes = set row.nodes i (k); count = row.count }) more v t after
+    lay_on i k fewer more rest v t after h e d f g o x y =
+        let room : waiting.from < waiting_room = lay_room (omega arith) in
         let fits = rw (← f) at (top_below names i w (tokens s) (lay_place i e)) in
         let a = operands_await _ _ (waiting.from + 1) (next_waits waiting u.sound room) (omega (arith, u.low)) (omega arith) k fits in
-        let z : suc (left - 1) ≡ left = omega arith in
-        rw (g, x, y)
+        let z : suc after ≡ left = omega arith in
+        rw (g, d, x, y)
         (record {
-          long = length-set row.nodes i (node k) ∙ u.long;
+          long = length-set row.nodes i (k) ∙ u.long;
           counted = u.counted;
           sound = a.sound;
           low = omega (arith, u.low, a.low);
           high = omega (arith, u.high, a.high);
           same =
               rw (a.are, ← behind_tail, some_laying, o)
-              (one_laid (left - 1) (waits waiting) w (tokens s) row.nodes i k (next_is waiting u.sound room ∙ sym e) f ∙ rw z u.same);
+              (one_laid after (waits waiting) w (tokens s) row.nodes i k (next_is waiting u.sound room ∙ sym e) f ∙ rw z u.same);
         })
 
     pub lay_done : left ≤ 0 → row ≡ laid names count ts

@@ -10,7 +10,6 @@ use Rattle.verdicts.specs.declared.comparison.Comparison.{Comparison}
 use Rattle.formula.specs.Names.{name_at, among_place}
 use Rattle.formula.specs.Nodes.{kind_at, LabelKnown}
 use Rattle.formula.specs.Operands.{OperandsBefore}
-use Rattle.formula.specs.declared.nodes.Node.{Node}
 use Rattle.formula.specs.declared.nodes.Kind.{Kind}
 use Rattle.formula.specs.declared.nodes.Kind.TheVariants as kind
 use Rattle.formula.specs.Listed.{held, path_held, last_nodes, listed, listed_in}
@@ -38,7 +37,7 @@ pub record ByKind (names : List Text) (P : ℕ → Kind → Type 0) : Type 0 whe
   pub on_both : (k n : ℕ) → 1 ≤ k → P k (kind.Both (k - suc n) (k - 1))
   pub on_chance : (c : Comparison) (p k n : ℕ) (w : csl.Path) → 1 ≤ k → P k (kind.Chance c p (path_held k n w))
 
-module _ (names : List Text) (P : ℕ → Kind → Type 0) (h : ByKind names P) (ns : List Node) where
+module _ (names : List Text) (P : ℕ → Kind → Type 0) (h : ByKind names P) (ns : List Kind) where
   -- at each place from b on, of n
   abbrev EachFrom : ℕ → ℕ → Type 0
   EachFrom b n = (k : ℕ) → b ≤ k → k < b + n → P k (kind_at ns k)

@@ -7,7 +7,6 @@ use Rattle.verdicts.specs.Paper.{comparison_of}
 use Rattle.formula.specs.Nodes.{kind_at, path_meant}
 use Rattle.formula.specs.declared.nodes.Kind.{Kind}
 use Rattle.formula.specs.declared.nodes.Kind.TheVariants as kind
-use Rattle.formula.specs.declared.nodes.Node.{Node}
 
 -- a path over formulas is a path formula
 abbrev pub path_over : PathOf Formula → csl.Path
@@ -24,12 +23,12 @@ formula_over names look (kind.Both a b) = both (look a) (look b)
 formula_over names look (kind.Chance c p o) = chance (comparison_of c) p (path_over (mapped look (path_meant o)))
 
 -- the formula at place i, to a depth
-unfoldable pub formula_at : List Text → ℕ → List Node → ℕ → Formula
+unfoldable pub formula_at : List Text → ℕ → List Kind → ℕ → Formula
 formula_at names zero nodes i = always
 formula_at names (suc d) nodes i = formula_over names (formula_at names d nodes) (kind_at nodes i)
 
 -- by the kind of the node there
-pub at_kind : (names : List Text) (d : ℕ) (nodes : List Node) (i : ℕ) (k : Kind) → kind_at nodes i ≡ k
+pub at_kind : (names : List Text) (d : ℕ) (nodes : List Kind) (i : ℕ) (k : Kind) → kind_at nodes i ≡ k
     → formula_at names (suc d) nodes i ≡ formula_over names (formula_at names d nodes) k
 unfolding formula_at
 at_kind names d nodes i k e = rw e

@@ -12,9 +12,8 @@ use Rattle.formula.specs.declared.nodes.Kind.TheVariants as kind
 use Rattle.formula.specs.Operands.{operands_of}
 use Rattle.formula.specs.declared.operands.Operands.{Operands}
 use Rattle.formula.specs.declared.operands.Operands.TheVariants.{None, One, Two}
-use Rattle.formula.specs.declared.nodes.Node.{Node}
 use Rattle.formula.specs.declared.nodes.Nodes.{Nodes}
-use Rattle.formula.specs.Nodes.{node, blank, path_meant}
+use Rattle.formula.specs.Nodes.{blank, path_meant}
 use Rattle.formula.specs.Listed.{kind_held}
 use Rattle.formula.specs.Waiting.{waits, nothing_waits, wait_for}
 
@@ -86,11 +85,11 @@ abbrev pub awaiting : Kind → List ℕ → List ℕ
 awaiting k ps = awaiting_all (operands_of k) ps
 
 -- so many nodes from the tokens, each put at the place that waits for it
-unfoldable pub laying : List Text → ℕ → List ℕ → List Text → List Node → List Node
+unfoldable pub laying : List Text → ℕ → List ℕ → List Text → List Kind → List Kind
 laying names zero ps ts ns = ns
 laying names (suc k) ps ts ns =
     let kd = top_kind names (head_d ps 0) (head_d ts []) (tail ts) in
-    laying names k (awaiting kd (tail ps)) (behind_own kd (tail ts)) (set ns (head_d ps 0) (node kd))
+    laying names k (awaiting kd (tail ps)) (behind_own kd (tail ts)) (set ns (head_d ps 0) kd)
 
 -- a row of so many nodes: the first token's node is the last
 unfoldable pub laid : List Text → ℕ → List Text → Nodes

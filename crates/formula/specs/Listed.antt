@@ -12,9 +12,8 @@ use Rattle.formula.specs.declared.nodes.Path.{Path}
 use Rattle.formula.specs.declared.nodes.Path.TheVariants as path
 use Rattle.formula.specs.declared.nodes.Kind.{Kind}
 use Rattle.formula.specs.declared.nodes.Kind.TheVariants as kind
-use Rattle.formula.specs.declared.nodes.Node.{Node}
 use Rattle.formula.specs.declared.nodes.Nodes.{Nodes}
-use Rattle.formula.specs.Nodes.{node, blank}
+use Rattle.formula.specs.Nodes.{blank}
 
 -- the code's value for each of the paper's comparisons
 abbrev pub held : csl.Comparison → Comparison
@@ -44,15 +43,15 @@ last_nodes (between t u a b) = nodes b
 
 -- its nodes, from place b on, and those of a path formula's operands
 unfoldable mutual
-  pub listed : List Text → Formula → ℕ → List Node
-  listed names always b = node kind.Always ∷ []
-  listed names (label w) b = node (kind.Label (place_of names w)) ∷ []
-  listed names (negated a) b = listed names a b ++ (node (kind_held names (b + nodes a) (nodes a) (negated a)) ∷ [])
+  pub listed : List Text → Formula → ℕ → List Kind
+  listed names always b = kind.Always ∷ []
+  listed names (label w) b = kind.Label (place_of names w) ∷ []
+  listed names (negated a) b = listed names a b ++ (kind_held names (b + nodes a) (nodes a) (negated a) ∷ [])
   listed names (both a c) b =
-      (listed names a b ++ listed names c (b + nodes a)) ++ (node (kind_held names (b + (nodes a + nodes c)) (nodes c) (both a c)) ∷ [])
-  listed names (chance r p w) b = listed_in names w b ++ (node (kind_held names (b + nodes_in w) (last_nodes w) (chance r p w)) ∷ [])
+      (listed names a b ++ listed names c (b + nodes a)) ++ (kind_held names (b + (nodes a + nodes c)) (nodes c) (both a c) ∷ [])
+  listed names (chance r p w) b = listed_in names w b ++ (kind_held names (b + nodes_in w) (last_nodes w) (chance r p w) ∷ [])
 
-  pub listed_in : List Text → csl.Path → ℕ → List Node
+  pub listed_in : List Text → csl.Path → ℕ → List Kind
   listed_in names (until t a c) b = listed names a b ++ listed names c (b + nodes a)
   listed_in names (next_move a) b = listed names a b
   listed_in names (between t u a c) b = listed names a b ++ listed names c (b + nodes a)

@@ -7,17 +7,13 @@ use Rattle.formula.specs.declared.nodes.Path.{Path}
 use Rattle.formula.specs.declared.nodes.Path.TheVariants as path
 use Rattle.formula.specs.declared.nodes.Kind.{Kind}
 use Rattle.formula.specs.declared.nodes.Kind.TheVariants as kind
-use Rattle.formula.specs.declared.nodes.Node.{Node}
-
-abbrev pub node : Kind → Node
-node k = record { kind = k }
 
 -- what stands where nothing was laid
-abbrev pub blank : Node
-blank = node kind.Always
+abbrev pub blank : Kind
+blank = kind.Always
 
-abbrev pub kind_at : List Node → ℕ → Kind
-kind_at nodes k = (get_or nodes k blank).kind
+abbrev pub kind_at : List Kind → ℕ → Kind
+kind_at nodes k = get_or nodes k blank
 
 -- of one value over and over each place has it, and so has what is past the end
 pub same_throughout : {A : Type 0} (n i : ℕ) (x : A) → get_or (replicate n x) i x ≡ x

@@ -4,11 +4,8 @@ use Rattle.csl.specs.Limits.{most_threshold, most_hundredths, most_rate_hundredt
 use Rattle.csl.specs.Formula.{PathOf, times_pass, two_phases, phases_pass, times_in_order}
 use Rattle.formula.specs.declared.nodes.Kind.{Kind}
 use Rattle.formula.specs.declared.nodes.Kind.TheVariants as kind
-use Rattle.formula.specs.declared.nodes.Node.{Node}
 use Rattle.formula.specs.declared.nodes.Nodes.{Nodes}
 use Rattle.formula.specs.Nodes.{kind_at, path_meant}
-use Rattle.formula.specs.declared.pass.Test.{Test}
-use Rattle.formula.specs.declared.pass.Test.TheVariants.{Labels, Limits, Order, Load, NoSearch}
 
 -- a rate times hundredths of an hour within the limit
 abbrev pub light_of : ℕ → ℕ → Bool
@@ -17,6 +14,14 @@ light_of q t = leb (q * t) most_rate_hundredths
 -- no search along the moves may decide a `P` over this path: it may with the threshold 0, where an until of one phase has time
 abbrev pub unsearched : {A : Type 0} → ℕ → PathOf A → Bool
 unsearched p o = not (eqb p 0) || two_phases o || times_pass (λ t. eqb t 0) o
+
+-- What is asked of every node: a label's place below a number of names; thresholds and hours within their limits; two times in order; a rate
+-- times the hours of each phase, in hundredths, within its limit; or that no search along the moves may decide it.
+pub data Test : Type 0 where
+  Labels : ℕ → Test
+  Limits Order : Test
+  Load : ℕ → Test
+  NoSearch : Test
 
 -- what a label's place, and the threshold and the path formula of a `P`, have to pass
 abbrev pub place_passes : Test → ℕ → Bool
@@ -46,7 +51,7 @@ all_below p zero = true
 all_below p (suc n) = all_below p n && p n
 
 -- a node of a list passes, by its place
-abbrev pub place_passed : Test → List Node → ℕ → Bool
+abbrev pub place_passed : Test → List Kind → ℕ → Bool
 place_passed test nodes k = passed test (kind_at nodes k)
 
 -- every node of a formula passes

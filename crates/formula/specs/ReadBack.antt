@@ -9,9 +9,9 @@ use Rattle.verdicts.specs.Paper.{comparison_of}
 use Rattle.formula.specs.Names.{name_at}
 use Rattle.formula.specs.Nodes.{path_meant}
 use Rattle.formula.specs.FormulaAt.{path_over, formula_at}
-use Rattle.formula.specs.declared.nodes.Node.{Node}
 use Rattle.formula.specs.Listed.{held, path_held, last_nodes, listed, listed_in}
 use Rattle.formula.specs.Stands.{Stands, first_held, second_held, always_held, label_held, negated_held, both_held, chance_held}
+use Rattle.formula.specs.declared.nodes.Kind.{Kind}
 
 -- what the code holds for a comparison stands for it
 held_is : (c : csl.Comparison) → comparison_of (held c) ≡ c
@@ -20,7 +20,7 @@ held_is csl.AtMost = refl
 held_is csl.AtLeast = refl
 held_is csl.More = refl
 
-module _ (names : List Text) (ns : List Node) where
+module _ (names : List Text) (ns : List Kind) where
   -- a formula is read back to a depth, wherever its nodes stand
   abbrev Back : Formula → ℕ → Type 0
   Back f d = (b : ℕ) → Stands ns (listed names f b) b → labels_pass (among names) f ≡ true → levels f ≤ d

@@ -1,6 +1,5 @@
 -- What is read of a text: the formula that it spells, if it spells one. Assumes nothing.
-use Rattle.std.specs.Prelude.{Bool, true, false, cond, ◌&&◌, List, leb, ◌≡◌, ℕ, ◌≤◌}
-use Rattle.std.proofs.Math.Option.{Option, none, some}
+use Rattle.std.specs.Prelude.{Bool, cond, ◌&&◌, List, leb, ◌≡◌, ℕ, ◌≤◌, Option, None, Some}
 use Rattle.std.proofs.Common.{le-leb}
 use Rattle.csl.specs.Text.{Text}
 use Rattle.csl.specs.Limits.{most_nodes, most_levels}
@@ -12,13 +11,13 @@ use Rattle.formula.specs.Listed.{empty, stored}
 abbrev pub few : ℕ → ℕ → Bool
 few count deep = leb count most_nodes && leb deep most_levels
 
-unfoldable pub reading_of : List Text → Option Formula → Reading
-reading_of names none = record { readable = false; count = 0; levels = 0; nodes = empty }
-reading_of names (some f) =
-    record { readable = true; count = nodes f; levels = levels f; nodes = cond (few (nodes f) (levels f)) (stored names f) empty }
+unfoldable pub reading_of : List Text → Option Formula → Option Reading
+reading_of names None = None
+reading_of names (Some f) =
+    Some (record { count = nodes f; levels = levels f; nodes = cond (few (nodes f) (levels f)) (stored names f) empty })
 
 -- within the limits
 pub reading_few : (names : List Text) (f : Formula) → nodes f ≤ most_nodes → levels f ≤ most_levels
-    → reading_of names (some f) ≡ record { readable = true; count = nodes f; levels = levels f; nodes = stored names f }
+    → reading_of names (Some f) ≡ Some (record { count = nodes f; levels = levels f; nodes = stored names f })
 unfolding reading_of
 reading_few names f h k = rw (le-leb (nodes f) most_nodes h, le-leb (levels f) most_levels k)

@@ -5,29 +5,28 @@ use Rattle.std.proofs.lemmas.List.{get_or_at}
 use Rattle.csl.specs.Text.{Text}
 use Rattle.csl.specs.Formula as csl
 use Rattle.csl.specs.Formula.{Formula, nodes, nodes_in}
-use Rattle.formula.specs.Nodes.{node, blank, kind_at}
-use Rattle.formula.specs.declared.nodes.Node.{Node}
+use Rattle.formula.specs.Nodes.{blank, kind_at}
 use Rattle.formula.specs.declared.nodes.Kind.{Kind}
 use Rattle.formula.specs.Listed.{kind_held, last_nodes, listed, listed_in}
 
 -- the nodes xs stand in ns from place b on
-pub record Stands (ns xs : List Node) (b : ℕ) : Type 0 where
-  pub pre : List Node
-  pub post : List Node
+pub record Stands (ns xs : List Kind) (b : ℕ) : Type 0 where
+  pub pre : List Kind
+  pub post : List Kind
   pub is : ns ≡ pre ++ (xs ++ post)
   pub at : length pre ≡ b
 
 -- a node of the kind k stands at place i, and before it, from place b on, the nodes xs
-pub record Under (ns xs : List Node) (k : Kind) (b i : ℕ) : Type 0 where
+pub record Under (ns xs : List Kind) (k : Kind) (b i : ℕ) : Type 0 where
   pub own : kind_at ns i ≡ k
   pub below : Stands ns xs b
 
-module _ (ns : List Node) where
-  stands_left : (xs ys : List Node) (b : ℕ) → Stands ns (xs ++ ys) b → Stands ns xs b
+module _ (ns : List Kind) where
+  stands_left : (xs ys : List Kind) (b : ℕ) → Stands ns (xs ++ ys) b → Stands ns xs b
   stands_left xs ys b h =
-      record { pre = h.pre; post = ys ++ h.post; is = h.is ∙ ap (λ (l : List Node). h.pre ++ l) (append_assoc xs ys h.post); at = h.at }
+      record { pre = h.pre; post = ys ++ h.post; is = h.is ∙ ap (λ (l : List Kind). h.pre ++ l) (append_assoc xs ys h.post); at = h.at }
 
-  stands_right : (xs ys : List Node) (b : ℕ) → Stands ns (xs ++ ys) b → Stands ns ys (b + length xs)
+  stands_right : (xs ys : List Kind) (b : ℕ) → Stands ns (xs ++ ys) b → Stands ns ys (b + length xs)
   stands_right xs ys b h =
       record {
         pre = h.pre ++ xs;
@@ -36,10 +35,10 @@ module _ (ns : List Node) where
         at = simp length-append (ap (λ (n : ℕ). n + length xs) h.at);
       }
 
-  stands_one : (k : Kind) (b : ℕ) → Stands ns (node k ∷ []) b → kind_at ns b ≡ k
-  stands_one k b h = ap (λ (n : Node). n.kind) (rw h.is (get_or_at h.pre (node k) h.post blank b h.at))
+  stands_one : (k : Kind) (b : ℕ) → Stands ns (k ∷ []) b → kind_at ns b ≡ k
+  stands_one k b h = rw h.is (get_or_at h.pre k h.post blank b h.at)
 
-  stands_under : (xs : List Node) (k : Kind) (b n : ℕ) → length xs ≡ n → Stands ns (xs ++ (node k ∷ [])) b → Under ns xs k b (b + n)
+  stands_under : (xs : List Kind) (k : Kind) (b n : ℕ) → length xs ≡ n → Stands ns (xs ++ (k ∷ [])) b → Under ns xs k b (b + n)
   stands_under xs k b n e h = record { own = rw e at (stands_one k (b + length xs) (stands_right xs _ b h)); below = stands_left xs _ b h }
 
 module _ (names : List Text) where
@@ -58,7 +57,7 @@ module _ (names : List Text) where
     length_in (csl.next_move a) b = length_listed a b
     length_in (csl.between t u a c) b = simp (length-append, length_listed a b, length_listed c (b + nodes a))
 
-  module _ (ns : List Node) where
+  module _ (ns : List Kind) where
     -- the nodes of two operands
     pub first_held : (a c : Formula) (b : ℕ) → Stands ns (listed names a b ++ listed names c (b + nodes a)) b → Stands ns (listed names a b) b
     first_held a c b h = stands_left ns (listed names a b) _ b h

@@ -16,13 +16,11 @@ use Rattle.csl.specs.Formula as csl
 use Rattle.csl.specs.Formula.{Formula, nodes, nodes_in, levels, levels_in, labels_pass, paths_pass, times_pass, phases_pass, times_in_order}
 use Rattle.formula.specs.declared.nodes.Kind.{Kind}
 use Rattle.formula.specs.declared.nodes.Kind.TheVariants as kind
-use Rattle.formula.specs.declared.nodes.Node.{Node}
 use Rattle.formula.specs.Nodes.{blank, kind_at, LabelKnown, same_throughout}
 use Rattle.formula.specs.Operands.{OperandsBefore}
 use Rattle.formula.specs.FormulaAt.{formula_at}
 use Rattle.formula.specs.Pass.{place_passes, path_passes, all_below, all_passed}
-use Rattle.formula.specs.declared.pass.Test.{Test}
-use Rattle.formula.specs.declared.pass.Test.TheVariants.{Labels, Limits, Order, Load}
+use Rattle.formula.specs.Pass.{Test, Labels, Limits, Order, Load}
 use Rattle.formula.specs.Listed.{listed, stored}
 use Rattle.formula.specs.Names.{among_place}
 use Rattle.formula.specs.Stands.{Stands, length_listed}
@@ -62,9 +60,8 @@ module _ (names : List Text) (f : Formula) where
   blank_beyond : (i : ℕ) → kind_at (stored names f).nodes (nodes f + i) ≡ kind.Always
   unfolding stored
   blank_beyond i =
-      ap (λ (x : Node). x.kind)
-      (ap (λ (k : ℕ). get_or (stored names f).nodes (k + i) blank) (sym (length_listed names f 0))
-      ∙ get_or-append-add (listed names f 0) (replicate (64 - nodes f) blank) i blank ∙ same_throughout (64 - nodes f) i blank)
+      ap (λ (k : ℕ). get_or (stored names f).nodes (k + i) blank) (sym (length_listed names f 0))
+      ∙ get_or-append-add (listed names f 0) (replicate (64 - nodes f) blank) i blank ∙ same_throughout (64 - nodes f) i blank
 
   -- what each node keeps is kept at every place
   each_stored : (P : ℕ → Kind → Type 0) → ByKind names P → labels_pass (among names) f ≡ true → (k : ℕ) → P k (kind_at (stored names f).nodes k)

@@ -9,11 +9,10 @@ use Rattle.csl.specs.Formula.{Formula, PathOf, path_of, nodes, nodes_in, labels_
 use Rattle.csl.specs.Limits.{most_hundredths}
 use Rattle.formula.specs.Nodes.{path_meant}
 use Rattle.formula.specs.Pass.{place_passes, path_passes, all_below, place_passed}
-use Rattle.formula.specs.declared.nodes.Node.{Node}
-use Rattle.formula.specs.declared.pass.Test.{Test}
-use Rattle.formula.specs.declared.pass.Test.TheVariants.{Labels, Limits, Order, Load, NoSearch}
+use Rattle.formula.specs.Pass.{Test, Labels, Limits, Order, Load, NoSearch}
 use Rattle.formula.specs.Listed.{path_held, listed, listed_in}
 use Rattle.formula.specs.Stands.{Stands, first_held, second_held, always_held, label_held, negated_held, both_held, chance_held}
+use Rattle.formula.specs.declared.nodes.Kind.{Kind}
 
 -- each label in it passes one test, and the threshold and the path of each `P` another
 unfoldable mutual
@@ -75,7 +74,7 @@ path_tested test p i n (csl.next_move a) = same_times _ _ test p (λ f. refl) (�
 path_tested test p i n (csl.between zero u a c) = same_times _ _ test p (λ f. refl) (λ f. refl) refl refl
 path_tested test p i n (csl.between (suc t) u a c) = same_times _ _ test p (λ f. refl) (λ f. refl) refl refl
 
-module _ (names : List Text) (test : Test) (ns : List Node) where
+module _ (names : List Text) (test : Test) (ns : List Kind) where
   abbrev pub upto : ℕ → Bool
   upto b = all_below (place_passed test ns) b
 

@@ -10,7 +10,6 @@ mod reading;
 mod size;
 mod waiting;
 
-pub use nodes::{Kind, Node, Nodes, Path};
-pub use operands::{Operands, operands_of};
-pub use pass::{Test, all_pass};
+pub use nodes::{Kind, Nodes, Path};
+pub use operands::Operands;
 pub use reading::{Reading, read};

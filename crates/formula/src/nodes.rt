@@ -1,4 +1,5 @@
 // The nodes of a formula in a row, by value: operands before their node, the outermost node last.
+use limits::MOST_NODES;
 use verdicts::Comparison;
 
 // A path formula: an until with its hours and the places of its two operands; the next move with the place of its operand; or an until between
@@ -33,21 +34,18 @@ pub enum Kind {
     },
 }
 
-// A node of a formula.
-#[derive(Clone, Copy)]
-pub struct Node {
-    pub kind: Kind,
-}
-
-// The nodes of a formula in a row; the first `count` are its own.
+// The nodes of a formula in a row; the first `count` are its own. There is no heap, so the row has room for the most that a formula may have.
+// That `count` is at most 64 stays in the clauses: as a ghost field it would ask for a proof in `stored` and `laid`, whose laws hold at any size.
 #[derive(Clone, Copy)]
 pub struct Nodes {
-    pub nodes: [Node; limits::MOST_NODES],
+    pub nodes: [Kind; MOST_NODES],
     pub count: usize,
 }
 
-// No nodes.
-pub const EMPTY: Nodes = Nodes {
-    nodes: [Node { kind: Kind::Always }; limits::MOST_NODES],
-    count: 0,
-};
+impl Nodes {
+    // No nodes.
+    pub const EMPTY: Nodes = Nodes {
+        nodes: [Kind::Always; MOST_NODES],
+        count: 0,
+    };
+}

@@ -13,39 +13,30 @@ pub enum Operands {
     Two(usize, usize),
 }
 
-// The operands of a path formula.
-fn path_operands(path: Path) -> Operands
-    ensures { result ≡ operands_in (path_meant path) }
-{
-    match path {
-        Path::Until {
-            hundredths: _,
-            first,
-            second,
-        } => Operands::Two(first, second),
-        Path::Next(operand) => Operands::One(operand),
-        Path::Between {
-            from: _,
-            to: _,
-            first,
-            second,
-        } => Operands::Two(first, second),
+impl Path {
+    // The operands of a path formula.
+    fn operands(self) -> Operands
+        ensures { result ≡ operands_in (path_meant self) }
+    {
+        match self {
+            Path::Next(operand) => Operands::One(operand),
+            Path::Until { first, second, .. } | Path::Between { first, second, .. } => {
+                Operands::Two(first, second)
+            }
+        }
     }
 }
 
-// The operands of a node.
-pub fn operands_of(kind: Kind) -> Operands
-    ensures { result ≡ operands_of kind }
-{
-    match kind {
-        Kind::Always => Operands::None,
-        Kind::Label(_) => Operands::None,
-        Kind::Negated(a) => Operands::One(a),
-        Kind::Both(a, b) => Operands::Two(a, b),
-        Kind::Chance {
-            comparison: _,
-            threshold: _,
-            path,
-        } => path_operands(path),
+impl Kind {
+    // The operands of a node.
+    pub fn operands(self) -> Operands
+        ensures { result ≡ operands_of self }
+    {
+        match self {
+            Kind::Always | Kind::Label(_) => Operands::None,
+            Kind::Negated(operand) => Operands::One(operand),
+            Kind::Both(first, second) => Operands::Two(first, second),
+            Kind::Chance { path, .. } => path.operands(),
+        }
     }
 }

@@ -1,16 +1,18 @@
 -- A token is a number where the digits at its start are one and nothing follows them. Assumes nothing.
-use mathlib.Core.Path.{◌≡◌, refl, sym, ◌∙◌, ap}
-use Prim.Native.Nat.{ℕ, suc, ◌<◌}
+use mathlib.Core.Path.{◌≡◌, refl, sym, ◌∙◌}
+use Prim.Native.Nat.{ℕ, suc}
 use native.Mathlib.Omega.{arith}
-use mathlib.Core.Bool.{Bool, true, false, cond, ◌&&◌, and-eq-true_iff}
+use mathlib.Core.Bool.{Bool, true, false, cond, ◌&&◌, true≢false, and-eq-true_iff}
 use mathlib.Core.List.{[], ◌∷◌}
-use mathlib.Core.Option.{none, some}
+use Rattle.std.specs.Prelude.{Option, None, Some}
+use Rattle.std.proofs.lemmas.Bool.Decides.{nat_tests}
 use lib.ListN.{length}
+use lib.Dec.{eqb}
+use borrow.Author.Tests.{eqb-true}
 use Rattle.csl.specs.Text.{Text, every}
 use Rattle.csl.specs.Number.{is_digit, is_number, value_of}
-use Rattle.texts.specs.Digits.{digit_run, number_at, used_by, NumberFits}
-use Rattle.texts.specs.declared.digits.Num.{Num}
-use Rattle.texts.specs.declared.digits.Num.TheVariants.{Value, Bad}
+use Rattle.texts.specs.Digits.{digit_run, number_at, read}
+use Rattle.texts.specs.declared.digits.Numeral.{Numeral}
 use Rattle.csl.specs.Grammar.{number_of}
 
 -- all of it are digits
@@ -38,40 +40,27 @@ unfolding is_number
 number_digits w e = ((and-eq-true_iff _ _).0 ((and-eq-true_iff _ _).0 ((and-eq-true_iff _ _).0 e).0).0).0
 
 -- a number as a whole token is read whole
-number_read : (w : Text) → is_number 10 w ≡ true → number_at 10 w ≡ Value (value_of w) (length w)
+number_read : (w : Text) → is_number 10 w ≡ true → number_at 10 w ≡ read (value_of w) (length w)
 unfolding number_at
 number_read w e = rw (run_whole w (number_digits w e), e)
 
-module _ (w : Text) (n : Num) (read : n ≡ number_at 10 w) where
-  pub amount_bad : n ≡ Bad → none ≡ number_of w
-  unfolding number_of
-  amount_bad e = go (is_number 10 w) refl
-    where
-      go : (p : Bool) → is_number 10 w ≡ p → none ≡ cond p (some (value_of w)) none
-      go true q = let z : ◌≡◌ {A = ℕ} 0 1 = cc (number_read w q) in absurd (omega arith)
-      go false q = refl
+-- a token spells a number where one is read of it whole
+abbrev whole_number : Option Numeral → ℕ → Option ℕ
+whole_number None n = None
+whole_number (Some r) n = cond (eqb r.used n) (Some r.value) None
 
-  pub amount_short : (v k : ℕ) → n ≡ Value v k → (k ≡ length w → ⊥) → none ≡ number_of w
-  unfolding number_of
-  amount_short v k e h = go (is_number 10 w) refl
-    where
-      go : (p : Bool) → is_number 10 w ≡ p → none ≡ cond p (some (value_of w)) none
-      go true q = absurd (h (cc (number_read w q)))
-      go false q = refl
+pub amount_read : (w : Text) → number_of w ≡ whole_number (number_at 10 w) (length w)
+unfolding number_of number_at
+amount_read w = go (is_number 10 w) refl
+  where
+    none : is_number 10 w ≡ false → (p : Bool) → is_number 10 (digit_run w) ≡ p → (q : Bool) → eqb (length (digit_run w)) (length w) ≡ q
+        → None ≡ whole_number (cond p (read (value_of (digit_run w)) (length (digit_run w))) None) (length w)
+    none e true h true k = let d = run_long w (eqb-true _ _ k) in absurd (true≢false (sym (rw d at h) ∙ e))
+    none e true h false k = rw k
+    none e false h q k = refl
 
-  pub amount_whole : (v k : ℕ) → n ≡ Value v k → k ≡ length w → some v ≡ number_of w
-  unfolding number_of number_at
-  amount_whole v k e h = go (is_number 10 (digit_run w)) refl (sym read ∙ e)
-    where
-      go : (p : Bool) → is_number 10 (digit_run w) ≡ p → cond p (Value (value_of (digit_run w)) (length (digit_run w))) Bad ≡ Value v k
-          → some v ≡ cond (is_number 10 w) (some (value_of w)) none
-      go true q r =
-          let l : length (digit_run w) ≡ length w = ap used_by r ∙ h in
-          let d = run_long w l in
-          let f : is_number 10 w ≡ true = rw d at q in
-          let g : value_of (digit_run w) ≡ v = cc in
-          rw (f, ← g, d)
-      go false q r = let z : ◌≡◌ {A = ℕ} 0 1 = cc in absurd (omega arith)
+    go : (p : Bool) → is_number 10 w ≡ p → cond p (Some (value_of w)) None ≡ whole_number (number_at 10 w) (length w)
+    go true e = rw number_read (grind (arith, nat_tests))
+    go false e = none e (is_number 10 (digit_run w)) refl (eqb (length (digit_run w)) (length w)) refl
 
-  pub amount_fits : (size : ℕ) → NumberFits size n → (v k : ℕ) → n ≡ Value v k → v < 10000000000
-  amount_fits size f v k e = (rw e at f).0
+pub ruleset amount_laws = (amount_read, nat_tests)

@@ -1,10 +1,9 @@
 -- The number of steps: more of them than tokens change nothing. So csl's reader is a reader of its own parts, with no word of steps.
 -- Assumes nothing.
-use Rattle.std.specs.Prelude.{◌≡◌, ℕ, zero, suc, ◌≤◌, length}
+use Rattle.std.specs.Prelude.{◌≡◌, ℕ, zero, suc, ◌≤◌, length, Option, None, Some}
 use Rattle.std.proofs.Math.Path.{refl}
 use Rattle.std.proofs.Common.{sym, arith}
 use mathlib.Core.List.{List, [], ◌∷◌, head_d, tail}
-use Rattle.std.proofs.Math.Option.{Option, none, some}
 use Rattle.csl.specs.Text.{Text, same, every}
 use Rattle.csl.specs.Labels.{is_word}
 use Rattle.csl.specs.Hours.{hundredths_of}
@@ -27,9 +26,9 @@ unfolding on_token
 token_agrees spelled [] f g h = refl
 token_agrees {A} spelled (w ∷ ts) f g h = go (spelled w)
   where
-    go : (o : Option A) → ◌≡◌ {A = Found} (elim o [ none ↦ nothing | some a ↦ f a ts ]) (elim o [ none ↦ nothing | some a ↦ g a ts ])
-    go none = refl
-    go (some a) = h a ts (omega arith)
+    go : (o : Option A) → ◌≡◌ {A = Found} (elim o [ None ↦ nothing | Some a ↦ f a ts ]) (elim o [ None ↦ nothing | Some a ↦ g a ts ])
+    go None = refl
+    go (Some a) = h a ts (omega arith)
 
 module _ (n : ℕ) (r s : Reader) (agree : Agree n r s) (steady : Steady s) where
   single_agrees : (make : Formula → Formula) → Agree n (single r make) (single s make)

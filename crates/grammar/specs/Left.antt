@@ -1,8 +1,7 @@
 -- What a reader leaves: the last of the tokens before it. Assumes nothing.
-use Rattle.std.specs.Prelude.{◌≡◌, refl, ℕ, zero, suc, ◌+◌, ◌≤◌, length, drop}
+use Rattle.std.specs.Prelude.{◌≡◌, refl, ℕ, zero, suc, ◌+◌, ◌≤◌, length, drop, Option, None, Some}
 use Rattle.std.proofs.Common.{◌∙◌, arith, length-drop, drop-drop}
 use mathlib.Core.List.{List, [], ◌∷◌}
-use Rattle.std.proofs.Math.Option.{Option, none, some}
 use Rattle.csl.specs.Text.{Text}
 use Rattle.csl.specs.Hours.{hundredths_of}
 use Rattle.csl.specs.Formula.{Formula, negated, both, chance, until, next_move, between, Comparison}
@@ -51,9 +50,9 @@ unfolding on_token
 token_leaves spelled [] next h = none_read
 token_leaves {A} spelled (w ∷ ts) next h = go (spelled w)
   where
-    go : (o : Option A) → Leaves (w ∷ ts) (elim o [ none ↦ nothing | some a ↦ next a ts ])
-    go none = none_read
-    go (some a) = within (last_more (last_all ts)) (h a ts)
+    go : (o : Option A) → Leaves (w ∷ ts) (elim o [ None ↦ nothing | Some a ↦ next a ts ])
+    go None = none_read
+    go (Some a) = within (last_more (last_all ts)) (h a ts)
 
 module _ (read : Reader) (steady : Steady read) where
   single_leaves : (make : Formula → Formula) → Steady (single read make)

@@ -5,4 +5,5 @@ pub mod Then
 pub mod Tokens
 pub mod Head
 pub mod Chance
+pub mod Hours
 pub mod PathStart

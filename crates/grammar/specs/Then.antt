@@ -1,9 +1,8 @@
 -- How csl's reader goes on behind a token that spells something, and in a path formula: by the first token, an empty one where there is none,
 -- which spells nothing. Assumes nothing.
-use Rattle.std.specs.Prelude.{◌≡◌, refl, ℕ}
+use Rattle.std.specs.Prelude.{◌≡◌, refl, ℕ, Option, None, Some}
 use Rattle.std.proofs.Common.{◌∙◌}
 use mathlib.Core.List.{List, [], ◌∷◌, head_d, tail}
-use Rattle.std.proofs.Math.Option.{Option, none, some}
 use Rattle.csl.specs.Text.{Text, same, every}
 use Rattle.csl.specs.Number.{is_number}
 use Rattle.csl.specs.Line.{parts}
@@ -12,18 +11,18 @@ use Rattle.csl.specs.Formula.{Comparison}
 use Rattle.csl.specs.Grammar.{Found, nothing, Reader, comparison_of, number_of, on_token, path_head_of, path_behind, path}
 
 abbrev pub token_then : {A : Type 0} → Option A → (A → List Text → Found) → List Text → Found
-token_then none next ts = nothing
-token_then (some a) next ts = next a ts
+token_then None next ts = nothing
+token_then (Some a) next ts = next a ts
 
-token_then_lem : {A : Type 0} (spelled : Text → Option A) → spelled [] ≡ none → (ts : List Text) (next : A → List Text → Found)
+token_then_lem : {A : Type 0} (spelled : Text → Option A) → spelled [] ≡ None → (ts : List Text) (next : A → List Text → Found)
     → on_token spelled ts next ≡ token_then (spelled (head_d ts [])) next (tail ts)
 unfolding on_token head_d
 token_then_lem spelled empty [] next = rw empty refl
 token_then_lem {A} spelled empty (w ∷ ts) next = go (spelled w)
   where
-    go : (o : Option A) → ◌≡◌ {A = Found} (elim o [ none ↦ nothing | some a ↦ next a ts ]) (token_then o next ts)
-    go none = refl
-    go (some a) = refl
+    go : (o : Option A) → ◌≡◌ {A = Found} (elim o [ None ↦ nothing | Some a ↦ next a ts ]) (token_then o next ts)
+    go None = refl
+    go (Some a) = refl
 
 -- a comparison, a number, hours
 pub comparison_then : (ts : List Text) (next : Comparison → List Text → Found)
@@ -41,13 +40,13 @@ unfolding hundredths_of hundredths_in parts is_number every
 hours_then = token_then_lem hundredths_of refl
 
 -- behind hours, where `goal` says what comes of them and what where there are none
-pub hours_by : (ts : List Text) (next : ℕ → List Text → Found) (goal : Option ℕ → Found) → nothing ≡ goal none
-    → ((t : ℕ) → next t (tail ts) ≡ goal (some t)) → on_token hundredths_of ts next ≡ goal (hundredths_of (head_d ts []))
+pub hours_by : (ts : List Text) (next : ℕ → List Text → Found) (goal : Option ℕ → Found) → nothing ≡ goal None
+    → ((t : ℕ) → next t (tail ts) ≡ goal (Some t)) → on_token hundredths_of ts next ≡ goal (hundredths_of (head_d ts []))
 hours_by ts next goal a b = hours_then ts next ∙ go (hundredths_of (head_d ts []))
   where
     go : (o : Option ℕ) → token_then o next (tail ts) ≡ goal o
-    go none = a
-    go (some t) = b t
+    go None = a
+    go (Some t) = b t
 
 -- a path formula, by its first token
 pub path_then : (read : Reader) (r : Comparison) (p : ℕ) (ts : List Text)

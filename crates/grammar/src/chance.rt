@@ -1,80 +1,55 @@
 // What stands between `P` and its path formula: a comparison and a threshold.
-ghost use Rattle.std.specs.Prelude.{◌≡◌};
-ghost use Rattle.csl.specs.Grammar.{comparison_of, number_of};
+ghost use Rattle.std.specs.Prelude.{◌≡◌, option_map};
+ghost use Rattle.csl.specs.Grammar as csl;
+ghost use Rattle.csl.specs.Grammar.{number_of};
+ghost use Rattle.verdicts.specs.Paper.{comparison_of};
 ghost use Rattle.grammar.specs.Tokens.{tokens};
-ghost use Rattle.grammar.specs.Chance.{sign_meant, amount_meant, AmountFits, BoundRead};
+ghost use Rattle.grammar.specs.Chance.{AmountFits, BoundRead};
 
 use limits::FORMULA_DIGITS;
-use texts::Num;
 use verdicts::Comparison;
 
-// A comparison, or none.
+// The comparison and the threshold of a `P`.
 #[derive(Clone, Copy)]
-enum Sign {
-    Is(Comparison),
-    Missing,
-}
-
-// A number of the formula, or none.
-#[derive(Clone, Copy)]
-pub enum Amount {
-    Is(u64),
-    Missing,
-}
-
-// The comparison and the threshold of a `P`, or one of them is missing.
-#[derive(Clone, Copy)]
-pub enum Bound {
-    Is(Comparison, u64),
-    Missing,
+pub struct Bound {
+    pub comparison: Comparison,
+    pub threshold: u64,
 }
 
 // The comparison that a token spells.
-fn read_sign(w: &[u8]) -> Sign
-    ensures { sign_meant result ≡ comparison_of w.now }
+#[tactic(auto, using(crate::proofs::WordLaw::mark_laws), unfolding(csl::specs::Grammar::comparison_of))]
+fn read_comparison(w: &[u8]) -> Option<Comparison>
+    ensures { option_map comparison_of result ≡ csl.comparison_of w.now }
 {
-    if texts::same(w, b"<") {
-        return Sign::Is(Comparison::Less);
+    match w {
+        b"<" => Some(Comparison::Less),
+        b"<=" => Some(Comparison::AtMost),
+        b">=" => Some(Comparison::AtLeast),
+        b">" => Some(Comparison::More),
+        _ => None,
     }
-    if texts::same(w, b"<=") {
-        return Sign::Is(Comparison::AtMost);
-    }
-    if texts::same(w, b">=") {
-        return Sign::Is(Comparison::AtLeast);
-    }
-    if texts::same(w, b">") {
-        return Sign::Is(Comparison::More);
-    }
-    Sign::Missing
 }
 
 // The number that a token spells.
-pub fn read_amount(w: &[u8]) -> Amount
-    ensures result_value { amount_meant result ≡ number_of w.now }
+#[tactic(auto, using(crate::proofs::AmountLaw::amount_laws))]
+pub fn read_amount(w: &[u8]) -> Option<u64>
+    ensures result_value { result ≡ number_of w.now }
     ensures within { AmountFits result }
 {
-    match texts::number(w, FORMULA_DIGITS) {
-        Num::Bad => Amount::Missing,
-        Num::Value(v, n) => {
-            if n == w.len() {
-                Amount::Is(v)
-            } else {
-                Amount::Missing
-            }
-        }
-    }
+    let number = texts::number(w, FORMULA_DIGITS)?;
+    (number.used == w.len()).then_some(number.value)
 }
 
 // The comparison and the threshold that the first two tokens spell: csl's reader goes on behind them, or stops there.
-pub fn read_bound(s: &[u8]) -> Bound
+#[tactic(auto, using(texts::specs::Behind::behind_tail, crate::specs::Then::comparison_then, crate::specs::Then::number_then))]
+pub fn read_bound(s: &[u8]) -> Option<Bound>
     ensures { BoundRead (tokens s.now) result }
 {
-    let t = texts::after(s, b' ');
-    match read_sign(texts::part(s, b' ')) {
-        Sign::Missing => Bound::Missing,
-        Sign::Is(c) => match read_amount(texts::part(t, b' ')) {
-            Amount::Missing => Bound::Missing,
-            Amount::Is(p) => Bound::Is(c, p),
-        },
-    }
+    let comparison = read_comparison(texts::part(s, b' '))?;
+    let rest = texts::after(s, b' ');
+    let threshold = read_amount(texts::part(rest, b' '))?;
+    Some(Bound {
+        comparison,
+        threshold,
+    })
 }

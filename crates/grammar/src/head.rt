@@ -13,44 +13,34 @@ pub enum Head {
     Bang,
     Ampersand,
     Chance,
-    Other,
 }
 
-// What kind of state formula a first token begins.
-pub fn read_head(w: &[u8]) -> Head
+// What kind of state formula a first token begins, if it begins one.
+#[tactic(auto, using(crate::proofs::WordLaw::word_laws), unfolding(csl::specs::Grammar::head_of))]
+pub fn read_head(w: &[u8]) -> Option<Head>
     ensures result_value { head_meant result ≡ head_of w.now }
     ensures within { HeadFits result (length w.now) }
 {
-    if texts::same(w, b"tt") {
-        return Head::Truth;
+    match w {
+        b"tt" => Some(Head::Truth),
+        _ if texts::is_word(w) => Some(Head::Name),
+        b"!" => Some(Head::Bang),
+        b"&" => Some(Head::Ampersand),
+        b"P" => Some(Head::Chance),
+        _ => None,
     }
-    if texts::is_word(w) {
-        return Head::Name;
-    }
-    if texts::same(w, b"!") {
-        return Head::Bang;
-    }
-    if texts::same(w, b"&") {
-        return Head::Ampersand;
-    }
-    if texts::same(w, b"P") {
-        return Head::Chance;
-    }
-    Head::Other
 }
 
 // The rest after the first two tokens.
 pub fn after_two<'a>(s: &'a [u8]) -> &'a [u8]
     ensures { result.now ≡ after_part space (after_part space s.now) }
 {
-    let t = texts::after(s, b' ');
-    texts::after(t, b' ')
+    texts::after(texts::after(s, b' '), b' ')
 }
 
 // The rest after the first three tokens.
 pub fn after_three<'a>(s: &'a [u8]) -> &'a [u8]
     ensures { result.now ≡ after_part space (after_part space (after_part space s.now)) }
 {
-    let t = after_two(s);
-    texts::after(t, b' ')
+    texts::after(after_two(s), b' ')
 }

@@ -1,11 +1,10 @@
 -- What follows for imports of PRISM's files: what is imported passes a typed sheet's tests, and says what the files say. Nothing here speaks of a
 -- program. Assumes nothing.
-use Rattle.std.specs.Prelude.{◌≡◌, false, not, ◌&&◌, ◌||◌, length, get_or, eqb, ltb}
+use Rattle.std.specs.Prelude.{◌≡◌, false, not, ◌&&◌, ◌||◌, length, get_or, eqb, ltb, None}
 use Rattle.std.proofs.Math.Path.{refl}
 use Rattle.std.proofs.Common.{sym, ◌∙◌, arith, length-append}
 use Rattle.std.proofs.Math.Bool.{true, and-eq-true_iff}
 use mathlib.Core.List.{List, [], ◌∷◌, ◌++◌}
-use Rattle.std.proofs.Math.Option.{none}
 use Prim.Native.Nat.{ℕ, ◌^◌, ◌≤◌, ◌<◌}
 use borrow.Author.Tests.{not-false, eqb-true, ne_eqb}
 use Rattle.csl.specs.Text.{Text, bytes, every}
@@ -35,7 +34,7 @@ first_below line h =
     go (w ∷ ws) e p = number_below 9 w ((and-eq-true_iff (is_number sheet_digits w) (every (is_number sheet_digits) ws)).0 p).0
 
 -- T15. Two files of which no test of the files themselves holds: 1, 2, 18, 19.
-module _ (f : Files) (passed : first_of (file_tests f) ≡ none) where
+module _ (f : Files) (passed : first_of (file_tests f) ≡ None) where
   none_holds : NoneHolds (file_tests f)
   none_holds = first_none (file_tests f) passed
 
@@ -113,7 +112,7 @@ module _ (f : Files) where
 
 -- "checked by 3 to 9 like typed ones": where no test of the files holds, results of at most 61,440 bytes are turned back as they are when typed,
 -- whatever buffers are lent, but that 15 comes last; and so what is imported passes a typed sheet's tests 1 to 9
-module _ (f : Files) (passed : first_of (file_tests f) ≡ none) (small : ltb sheet_bytes (length (imported_moves f)) ≡ false)
+module _ (f : Files) (passed : first_of (file_tests f) ≡ None) (small : ltb sheet_bytes (length (imported_moves f)) ≡ false)
     (short : ltb sheet_bytes (length (imported_labels f)) ≡ false) where
   pub checked_as_typed : first_of (three_to_nine (imported_moves f) (imported_labels f)) ≡ first_of (sheet_tests (imported_moves f) (imported_labels f))
   unfolding sheet_tests first_of
@@ -124,12 +123,12 @@ module _ (f : Files) (passed : first_of (file_tests f) ≡ none) (small : ltb sh
         layouts_are_right f passed,
       ) refl
 
-pub imports_pass : (f : Files) (a b : ℕ) → import_refusal f a b ≡ none → first_of (sheet_tests (imported_moves f) (imported_labels f)) ≡ none
+pub imports_pass : (f : Files) (a b : ℕ) → import_refusal f a b ≡ None → first_of (sheet_tests (imported_moves f) (imported_labels f)) ≡ None
 unfolding import_refusal result_tests NoneHolds
 imports_pass f a b h =
     let typed : List _ = three_to_nine (imported_moves f) (imported_labels f) in
     let k : NoneHolds (file_tests f ++ (typed ++ result_tests f a b)) = first_none _ h in
-    let passed : first_of (file_tests f) ≡ none = none_left (file_tests f) _ k in
+    let passed : first_of (file_tests f) ≡ None = none_left (file_tests f) _ k in
     let behind : NoneHolds (typed ++ result_tests f a b) = first_none _ (none_right (file_tests f) _ k) in
     let last : NoneHolds (result_tests f a b) = first_none _ (none_right typed (result_tests f a b) behind) in
     let bytes = neither (ltb sheet_bytes (length (imported_moves f))) (ltb sheet_bytes (length (imported_labels f))) last.0 in

@@ -1,6 +1,6 @@
 -- The row of a `P`, judged by the moves or by its ends. Assumes nothing.
 use mathlib.Core.Path.{◌≡◌, refl, ap, sym, ◌∙◌}
-use mathlib.Core.Bool.{Bool, true, false, cond, not, ◌&&◌, true≢false, false≢true, and-eq-true_iff}
+use mathlib.Core.Bool.{Bool, true, false, cond, ◌&&◌, false≢true, and-eq-true_iff}
 use mathlib.Core.List.{List}
 use Prim.Native.Nat.{ℕ, ◌+◌, ◌-◌, ◌<◌}
 use native.Mathlib.Omega.{arith}
@@ -22,22 +22,10 @@ use Rattle.csl.specs.Laws.Search.{leads_in}
 use Rattle.csl.proofs.Laws.Search.{leads_told}
 use Rattle.numbers.specs.Filled.{at, Table, table_at, table_rest, filled_as}
 use Rattle.bounds.specs.Found.{decided_path, possible_path, certain_path}
-use Rattle.verdicts.specs.Byte.{verdict_at, verdicts, byte_read}
+use Rattle.verdicts.specs.Byte.{verdict_at, verdicts}
 use Rattle.reachability.specs.Searched.{SearchAsked, Searched}
-use Rattle.verdict_rows.specs.Byte.{judged_byte, told_byte, next_byte}
+use Rattle.verdict_rows.specs.Byte.{judged_byte, told_byte, next_byte, next_told}
 use Rattle.judgement.specs.Judged.{moves_decide, Hold, JudgeAsked, JudgeLeaves, AskAsked, Asks, AskLeaves, NextJudged}
-
--- two tests, the one before the other
-pub none_decided : (p count : ℕ) (rows : List ℕ) {b : Bool} → b ≡ is_zero_or_one p → not b ≡ true → false ≡ moves_decide p count rows
-unfolding moves_decide
-none_decided p count rows {b = true} e h = absurd (false≢true h)
-none_decided p count rows {b = false} e h = rw (sym e) refl
-
-pub all_looked : (p count : ℕ) (rows : List ℕ) {b x : Bool} → b ≡ is_zero_or_one p → not b ≡ false → x ≡ all_decided count (verdicts rows)
-    → x ≡ moves_decide p count rows
-unfolding moves_decide
-all_looked p count rows {b = true} e h i = rw (sym e) i
-all_looked p count rows {b = false} e h i = absurd (true≢false h)
 
 -- what the moves decide
 pub decide_both : (p count : ℕ) (rows : List ℕ) → moves_decide p count rows ≡ true → (is_zero_or_one p ≡ true) × (all_decided count (verdicts rows) ≡ true)
@@ -118,16 +106,7 @@ module _ {ix l rows : List ℕ} {n t p : ℕ} (a : AskAsked ix l rows n t p) whe
         decided = all_decided_lem (n + n) (verdicts rows) (decide_both p (n + n) rows a.decide).1;
       }
 
-  -- with 1,000,000,000, and at time 0, where the second operand holds
-  pub asked_certain : (p ≡ 0 → ⊥) → AskLeaves a rows
-  asked_certain z v w h =
-      record { same = refl; told = λ s b. ap as_no (h.second s b) ∙ rw (ne_eqb p 0 z) refl; beyond = λ k b. refl }
-
-  pub asked_at_once : p ≡ 0 → t ≡ 0 → AskLeaves a rows
-  asked_at_once z e v w h =
-      record { same = refl; told = λ s b. ap as_no (h.second s b) ∙ rw (z, e) refl; beyond = λ k b. refl }
-
-  -- else by a search
+  -- with 0, and a time above 0, by a search
   pub asked_search : {rows' : List ℕ} → p ≡ 0 → (t ≡ 0 → ⊥) → ((b : SearchAsked ix l rows n) → Searched b.c n rows rows') → AskLeaves a rows'
   asked_search {rows'} z e f v w h =
       let g : Searched a.judge.c n rows rows' = f (may_search z e) in
@@ -137,7 +116,7 @@ module _ {ix l rows : List ℕ} {n t p : ℕ} (a : AskAsked ix l rows n t p) whe
         beyond = g.beyond;
       }
 
-pub ruleset ask_laws = (may_search, asked_certain, asked_at_once, asked_search)
+pub ruleset ask_laws = (may_search, asked_search)
 
 -- judging
 moves_one : (r : Comparison) (p : ℕ) (b possible certain : Bool) → b ≡ cond (eqb p 0) possible certain → moves_verdict r p b b ≡ moves_verdict r p possible certain
@@ -177,7 +156,7 @@ module _ {ix l rows : List ℕ} {n t p : ℕ} (a : JudgeAsked ix l rows n t p) {
       = decide_is a.c v w n rows a.of h p t ∙ sym e ∙ d in
       record { same = j.same; row = λ s i. table_at j s i ∙ rw decided refl; beyond = λ k i. table_rest j k (omega arith) }
 
-pub ruleset judge_laws = (may_ask, judged_by_moves, judged_by_ends)
+pub ruleset judge_laws = (judged_by_moves, judged_by_ends)
 
 -- a next move
 one_test : (a b : Bool) → cond a b false ≡ cond b a false
@@ -191,15 +170,11 @@ module _ (l row : List ℕ) (n : ℕ) (r : Comparison) (p : ℕ) {b : Bool} (e :
   unfolding moves_decide
   decided_is = one_test (all_decided n (verdicts row)) (is_zero_or_one p) ∙ sym e
 
-  next_one : (lower upper : ℕ) → as_no (verdict_at (next_byte p lower upper)) ≡ cond (eqb p 0) (ltb 0 upper) (eqb lower billion)
-  unfolding next_byte
-  next_one lower upper = ap as_no (byte_read (marked (cond (eqb p 0) (ltb 0 upper) (eqb lower billion)))) ∙ as_no_mark (cond (eqb p 0) (ltb 0 upper) (eqb lower billion))
-
   pub next_by_moves : b ≡ true → {row' : List ℕ} → Table (λ s. told_byte r p (next_byte p (at l s) (at l (n + s)))) row row' n → NextJudged r p n l row row'
   unfolding told_byte
   next_by_moves d j =
       filled_as _
-      (λ s i. ap verdict_byte (moves_one r p _ (ltb 0 (at l (n + s))) (eqb (at l s) billion) (next_one (at l s) (at l (n + s)))) ∙ rw (decided_is ∙ d) refl) j
+      (λ s i. ap verdict_byte (moves_one r p _ (ltb 0 (at l (n + s))) (eqb (at l s) billion) (next_told p (at l s) (at l (n + s)))) ∙ rw (decided_is ∙ d) refl) j
 
   pub next_by_ends : b ≡ false → {row' : List ℕ} → Table (λ s. judged_byte r p (at l s) (at l (n + s))) row row' n → NextJudged r p n l row row'
   unfolding judged_byte

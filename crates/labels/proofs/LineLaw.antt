@@ -4,7 +4,7 @@ use Prim.Native.Nat.{ℕ, zero, suc, ◌+◌, ◌*◌, ◌-◌, ◌≤◌, ◌<�
 use native.Mathlib.Omega.{arith}
 use mathlib.Core.Bool.{Bool, true, false, cond, ◌&&◌, ◌||◌, and-false, and-eq-true_iff, false≢true, true≢false}
 use mathlib.Core.List.{List, [], ◌∷◌, head_d, tail}
-use lib.ListN.{length, drop}
+use lib.ListN.{length, take, drop}
 use lib.Dec.{eqb, eqb-suc-suc}
 use borrow.Author.Tests.{ne_eqb, eqb-true, ltb-true}
 use Rattle.csl.specs.Text.{Text, same, every}
@@ -13,8 +13,10 @@ use Rattle.csl.specs.Number.{is_number, zero_led, value_of}
 use Rattle.csl.specs.Line.{line_feed, comma}
 use Rattle.csl.specs.Labels.{is_mark, state_line}
 use Rattle.texts.specs.Span.{span_of}
-use Rattle.texts.specs.declared.digits.Num.{Num}
-use Rattle.texts.specs.declared.digits.Num.TheVariants.{Value, Bad}
+use Rattle.texts.specs.Cut.{rest_is}
+use Rattle.std.specs.Prelude.{Option, Some, None}
+use Rattle.texts.specs.declared.digits.Numeral.{Numeral}
+use Rattle.texts.specs.Digits.{read, read_once}
 use Rattle.texts.specs.LineAt.{line_at, is_ended_at, fields_at}
 use Rattle.texts.specs.Field.{field_at}
 use Rattle.texts.specs.FieldsPass.{fields_pass}
@@ -71,11 +73,11 @@ row_numbers k t h =
     all (f ∷ fs) e g m = rw (g, m)
 
 module _ (t : Text) where
-  pub row_bad : (k : ℕ) → field_at comma t ≡ Bad → state_line_at (suc k) t ≡ Bad
+  pub row_bad : (k : ℕ) → field_at comma t ≡ None → state_line_at (suc k) t ≡ None
   unfolding state_line_at
   row_bad k e = go (is_state_line_at (suc k) t) refl
     where
-      go : (x : Bool) → is_state_line_at (suc k) t ≡ x → cond x (Value (value_of (head_d (fields_at t) [])) (span_of line_feed t + 1)) Bad ≡ Bad
+      go : (x : Bool) → is_state_line_at (suc k) t ≡ x → cond x (read (value_of (head_d (fields_at t) [])) (span_of line_feed t + 1)) None ≡ None
       go true h = absurd (true≢false (sym (row_numbers (suc k) t h) ∙ numbers_more k t ∙ rw e))
       go false h = refl
 
@@ -83,14 +85,14 @@ module _ (t : Text) where
   unfolding state_line_at head_d
   row_lone = rw (row_alone t, numbers_last t) (go (field_at line_feed t) refl)
     where
-      go : (r : Num) → field_at line_feed t ≡ r
-          → cond (then_in (λ w. true) t r) (Value (value_of (head_d (fields_at t) [])) (span_of line_feed t + 1)) Bad ≡ r
-      go Bad e = refl
-      go (Value v u) e =
-          let r = reading line_feed t v u e in
-          rw (feed_fields t v u r, r.value, feed_span t v u r)
+      go : (r : Option Numeral) → field_at line_feed t ≡ r
+          → cond (then_in (λ w. true) t r) (read (value_of (head_d (fields_at t) [])) (span_of line_feed t + 1)) None ≡ r
+      go None e = refl
+      go (Some n) e =
+          let r = reading line_feed t n.value n.used e in
+          rw (feed_fields t n.value n.used r, r.value, feed_span t n.value n.used r)
 
-  module _ (v u : ℕ) (e : field_at comma t ≡ Value v u) where
+  module _ (v u : ℕ) (e : field_at comma t ≡ read v u) where
     row_marks : (k : ℕ) → is_state_line_at (suc k) t ≡ marks_in (suc k) (drop u t)
     unfolding is_state_line_at state_line fields_pass head_d
     row_marks k =
@@ -108,7 +110,7 @@ module _ (t : Text) where
     row_rest k = rw (row_marks k) (go (marks_in (suc k) (drop u t)) refl)
       where
         go : (x : Bool) → marks_in (suc k) (drop u t) ≡ x
-            → cond x (Value v (u + 2 * suc k)) Bad ≡ cond x (Value (value_of (head_d (fields_at t) [])) (span_of line_feed t + 1)) Bad
+            → cond x (read v (u + 2 * suc k)) None ≡ cond x (read (value_of (head_d (fields_at t) [])) (span_of line_feed t + 1)) None
         go true h =
             let r = reading comma t v u e in
             let b : span_of line_feed t + 1 ≡ u + 2 * suc k = omega (arith, comma_span t v u r, marks_bytes k (drop u t) h) in
@@ -120,69 +122,79 @@ fits_row : (names : ℕ) (t : Text) → is_state_line_at names t ≡ true → 2 
 fits_row zero t h = omega arith
 fits_row (suc k) t h = go (field_at comma t) refl
   where
-    go : (r : Num) → field_at comma t ≡ r → 2 * suc k + 1 ≤ span_of line_feed t + 1
-    go Bad e = absurd (true≢false (sym (row_numbers (suc k) t h) ∙ numbers_more k t ∙ rw e))
-    go (Value v u) e =
-        let r = reading comma t v u e in
-        omega (arith, r.used, comma_span t v u r, marks_bytes k (drop u t) (sym (row_marks t v u e k) ∙ h))
+    go : (r : Option Numeral) → field_at comma t ≡ r → 2 * suc k + 1 ≤ span_of line_feed t + 1
+    go None e = absurd (true≢false (sym (row_numbers (suc k) t h) ∙ numbers_more k t ∙ rw e))
+    go (Some n) e =
+        let r = reading comma t n.value n.used e in
+        omega (arith, r.used, comma_span t n.value n.used r, marks_bytes k (drop n.used t) (sym (row_marks t n.value n.used e k) ∙ h))
 
 pub row_fits : (names : ℕ) (t : Text) → StateLineFits names (length t) (state_line_at names t)
 unfolding state_line_at is_state_line_at is_ended_at
 row_fits names t = go (is_state_line_at names t) refl
   where
     go : (x : Bool) → is_state_line_at names t ≡ x
-        → StateLineFits names (length t) (cond x (Value (value_of (head_d (fields_at t) [])) (span_of line_feed t + 1)) Bad)
+        → StateLineFits names (length t) (cond x (read (value_of (head_d (fields_at t) [])) (span_of line_feed t + 1)) None)
     go true h =
         let p : span_of line_feed t < length t = ltb-true _ _ ((and-eq-true_iff (is_ended_at t) (state_line (suc names) (line_at t))).0 h).0 in
         (fits_row names t h, omega arith)
     go false h = omega arith
 
--- marks that are read, and that are not
-pub rest_read : (v u k n : ℕ) (t : Text) → 1 ≤ k → n ≡ cond (marks_in k (drop u t)) (2 * k) 0 → (n ≡ 0 → ⊥) → Value v (u + n) ≡ marks_behind v u k t
-rest_read v u k n t l e h = go (marks_in k (drop u t)) e
-  where
-    go : (x : Bool) → n ≡ cond x (2 * k) 0 → Value v (u + n) ≡ cond x (Value v (u + 2 * k)) Bad
-    go true q = rw q
-    go false q = absurd (h q)
+-- by the number of names and by the answers that the code has: of the number, and of the marks behind it
+module _ (names : ℕ) (t : Text) where
+  pub row_zero : {r : Option Numeral} → names ≡ 0 → r ≡ field_at line_feed t → r ≡ state_line_at names t
+  row_zero e f = f ∙ rw e (sym (row_lone t))
 
-pub rest_bad : (v u k n : ℕ) (t : Text) → 1 ≤ k → n ≡ cond (marks_in k (drop u t)) (2 * k) 0 → n ≡ 0 → Bad ≡ marks_behind v u k t
-rest_bad v u k n t l e h = go (marks_in k (drop u t)) e
-  where
-    go : (x : Bool) → n ≡ cond x (2 * k) 0 → Bad ≡ cond x (Value v (u + 2 * k)) Bad
-    go true q = absurd (omega arith)
-    go false q = refl
+  module _ {r : Option Numeral} (h : names ≡ 0 → ⊥) (f : r ≡ field_at comma t) where
+    pub row_none : r ≡ None → None ≡ state_line_at names t
+    row_none e = go names h
+      where
+        go : (n : ℕ) → (n ≡ 0 → ⊥) → None ≡ state_line_at n t
+        go zero g = absurd (g refl)
+        go (suc k) g = sym (row_bad t k (sym f ∙ e))
 
--- by the number of names as the code has it
-pub row_zero : (names : ℕ) (t : Text) → names ≡ 0 → field_at line_feed t ≡ state_line_at names t
-row_zero names t e = rw e (sym (row_lone t))
+    module _ {n : Numeral} (e : r ≡ Some n) where
+      row_some : marks_behind n.value n.used names t ≡ state_line_at names t
+      row_some = go names h
+        where
+          go : (m : ℕ) → (m ≡ 0 → ⊥) → marks_behind n.value n.used m t ≡ state_line_at m t
+          go zero g = absurd (g refl)
+          go (suc k) g = row_rest t n.value n.used (sym f ∙ e) k
 
-pub row_none : (names : ℕ) (t : Text) → (names ≡ 0 → ⊥) → field_at comma t ≡ Bad → Bad ≡ state_line_at names t
-row_none zero t h e = absurd (h refl)
-row_none (suc k) t h e = sym (row_bad t k e)
+      module _ {m : Option ℕ} (q : m ≡ cond (marks_in names (take (length t - n.used) (drop n.used t))) (Some (2 * names)) None) where
+        pub row_unmarked : m ≡ None → None ≡ state_line_at names t
+        row_unmarked g = go (marks_in names (drop n.used t)) (sym g ∙ rw rest_is at q) ∙ row_some
+          where
+            go : (x : Bool) → None ≡ cond x (Some (2 * names)) None → None ≡ cond x (read n.value (n.used + 2 * names)) None
+            go true p = let z : ◌≡◌ {A = ℕ} 0 1 = cc in absurd (omega arith)
+            go false p = refl
 
-pub row_some : (names : ℕ) (t : Text) (v u : ℕ) → (names ≡ 0 → ⊥) → field_at comma t ≡ Value v u → marks_behind v u names t ≡ state_line_at names t
-row_some zero t v u h e = absurd (h refl)
-row_some (suc k) t v u h e = row_rest t v u e k
+        pub row_marked : {k : ℕ} → m ≡ Some k → read n.value (n.used + k) ≡ state_line_at names t
+        row_marked {k} g = go (marks_in names (drop n.used t)) (sym g ∙ rw rest_is at q) ∙ row_some
+          where
+            go : (x : Bool) → Some k ≡ cond x (Some (2 * names)) None → read n.value (n.used + k) ≡ cond x (read n.value (n.used + 2 * names)) None
+            go true p = let w : k ≡ 2 * names = cc in rw w
+            go false p = let z : ◌≡◌ {A = ℕ} 0 1 = cc in absurd (omega arith)
+
+pub ruleset row_laws = (row_zero, row_none, row_unmarked, row_marked)
 
 -- the marks of a row that was read
-pub row_bare : (t : Text) (v u : ℕ) → state_line_at 0 t ≡ Value v u → tail (fields_at t) ≡ []
+pub row_bare : (t : Text) (v u : ℕ) → state_line_at 0 t ≡ read v u → tail (fields_at t) ≡ []
 row_bare t v u h = rw (feed_fields t v u (reading line_feed t v u (sym (row_lone t) ∙ h)))
 
-pub row_tail : (k : ℕ) (t : Text) (v u : ℕ) → state_line_at (suc k) t ≡ Value v u
+pub row_tail : (k : ℕ) (t : Text) (v u : ℕ) → state_line_at (suc k) t ≡ read v u
     → (marks_in (suc k) (drop (u - 2 * suc k) t) ≡ true) × (fields_at (drop (u - 2 * suc k) t) ≡ tail (fields_at t))
 row_tail k t v u h = go (field_at comma t) refl
   where
-    no : Bad ≡ Value v u → (marks_in (suc k) (drop (u - 2 * suc k) t) ≡ true) × (fields_at (drop (u - 2 * suc k) t) ≡ tail (fields_at t))
+    no : ◌≡◌ {A = Option Numeral} None (read v u) → (marks_in (suc k) (drop (u - 2 * suc k) t) ≡ true) × (fields_at (drop (u - 2 * suc k) t) ≡ tail (fields_at t))
     no q = let z : ◌≡◌ {A = ℕ} 0 1 = cc in absurd (omega arith)
 
-    go : (r : Num) → field_at comma t ≡ r → (marks_in (suc k) (drop (u - 2 * suc k) t) ≡ true) × (fields_at (drop (u - 2 * suc k) t) ≡ tail (fields_at t))
-    go Bad e = no (sym (row_bad t k e) ∙ h)
-    go (Value w a) e = marked (marks_in (suc k) (drop a t)) refl (row_rest t w a e k ∙ h)
+    go : (r : Option Numeral) → field_at comma t ≡ r → (marks_in (suc k) (drop (u - 2 * suc k) t) ≡ true) × (fields_at (drop (u - 2 * suc k) t) ≡ tail (fields_at t))
+    go None e = no (sym (row_bad t k e) ∙ h)
+    go (Some n) e = marked (marks_in (suc k) (drop n.used t)) refl (row_rest t n.value n.used e k ∙ h)
       where
-        marked : (x : Bool) → marks_in (suc k) (drop a t) ≡ x → cond x (Value w (a + 2 * suc k)) Bad ≡ Value v u
+        marked : (x : Bool) → marks_in (suc k) (drop n.used t) ≡ x → cond x (read n.value (n.used + 2 * suc k)) None ≡ read v u
             → (marks_in (suc k) (drop (u - 2 * suc k) t) ≡ true) × (fields_at (drop (u - 2 * suc k) t) ≡ tail (fields_at t))
         marked true m q =
-            let b : a + 2 * suc k ≡ u = cc in
-            let d : u - 2 * suc k ≡ a = omega arith in
-            rw d (m, rw (comma_fields t w a (reading comma t w a e)))
+            let d : u - 2 * suc k ≡ n.used = omega (arith, (read_once q).1) in
+            rw d (m, rw (comma_fields t n.value n.used (reading comma t n.value n.used e)))
         marked false m q = no q

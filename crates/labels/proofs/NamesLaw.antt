@@ -7,6 +7,9 @@ use mathlib.Core.List.{List, [], ◌∷◌, head_d}
 use lib.ListN.{length}
 use lib.Dec.{ltb, leb-suc-suc}
 use borrow.Author.Tests.{lt-ltb, le-ltb, not-true, not-false}
+use Rattle.std.specs.Prelude.{nat_eq}
+use Rattle.std.specs.Cmp.Lexicographic.{pointwise}
+use Rattle.texts.proofs.Same.{equal_is}
 use Rattle.csl.specs.Text.{Text, same, among, every}
 use Rattle.csl.specs.Line.{comma}
 use Rattle.csl.specs.Labels.{is_name, no_repeat, place_of}
@@ -49,15 +52,15 @@ module _ (t : Text) (h : 0 < length t) where
 
   -- r tells whether the first name passes its test
   module _ (x : Text) (r : Bool) (first : x ≡ head_d (parts_behind comma t) []) where
-    module _ {names w : Text} {i : ℕ} (p : Placing names w t i) (is : r ≡ same x w) where
+    module _ {names w : Text} {i : ℕ} (p : Placing names w t i) (is : r ≡ pointwise nat_eq x w) where
       pub place_here : r ≡ true → i ≡ place_of (parts_behind comma names) w
       unfolding place_of
-      place_here e = let q = rw (behind_some comma t h, ← first, ← is, e) at p.place in omega arith
+      place_here e = let q = rw (behind_some comma t h, ← first, ← equal_is x w, ← is, e) at p.place in omega arith
 
       pub place_on : (u : Text) → r ≡ false → u ≡ after_part comma t → Placing names w u (i + 1)
       unfolding place_of
       place_on u e f =
-          let q = rw (behind_some comma t h, ← first, ← is, e, ← f) at p.place in
+          let q = rw (behind_some comma t h, ← first, ← equal_is x w, ← is, e, ← f) at p.place in
           record { within = omega (arith, p.within, after_shorter u f); place = omega arith }
 
     module _ {all : Bool} (left : every is_name (parts_behind comma t) ≡ all) (is : r ≡ is_name x) where

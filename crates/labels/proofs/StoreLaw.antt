@@ -1,20 +1,21 @@
 -- The words of a labels text, stored line by line. Assumes nothing.
 use mathlib.Core.Path.{◌≡◌, refl, sym, ap, ◌∙◌}
-use Prim.Native.Nat.{ℕ, zero, suc, ◌+◌, ◌*◌, ◌-◌, ◌^◌, ◌≤◌, ◌<◌}
+use Prim.Native.Nat.{ℕ, zero, suc, ◌+◌, ◌*◌, ◌-◌, ◌≤◌, ◌<◌}
 use native.Mathlib.Omega.{arith}
 use native.Mathlib.Numerals.{add-one}
-use mathlib.Core.Bool.{true, true≢false}
+use mathlib.Core.Bool.{Bool, true, false, true≢false}
+use lib.Dec.{ltb}
+use borrow.Author.Tests.{ltb-true, ltb-false}
 use mathlib.Core.List.{List, [], tail}
 use lib.ListN.{length, take, drop, get_or, set}
-use mir.Val.{Fits}
-use mir.Syntax.{w64}
 use Rattle.csl.specs.Text.{Text}
 use Rattle.csl.specs.Line.{line_feed, lines_of, later_lines, first_line, fields_of}
 use Rattle.csl.specs.Labels.{state_line, labels_layout, names_of, states_of}
 use Rattle.texts.specs.Span.{span_of}
 use Rattle.texts.specs.Cut.{rest_is, ended_cut, later_cut, later_none}
-use Rattle.texts.specs.declared.digits.Num.{Num}
-use Rattle.texts.specs.declared.digits.Num.TheVariants.{Value, Bad}
+use Rattle.std.specs.Prelude.{Option, Some, None}
+use Rattle.texts.specs.declared.digits.Numeral.{Numeral}
+use Rattle.texts.specs.Digits.{read}
 use Rattle.texts.specs.LineAt.{line_at, fields_at, fields_some}
 use Rattle.texts.specs.Lines.{lines_pass, next_line, lines_are, lines_end, pass_more, pass_not}
 use Rattle.texts.specs.Places.{drop_here, drop_none}
@@ -26,12 +27,12 @@ use Rattle.labels.specs.Words.{marks_word, state_word}
 use Rattle.labels.proofs.LineLaw.{row_bare, row_tail}
 
 -- the marks of a line that was read, behind its number
-line_marks : (names : ℕ) (t : Text) (v u : ℕ) → state_line_at names t ≡ Value v u → marks_left names (drop (u - 2 * names) t) ≡ true
+line_marks : (names : ℕ) (t : Text) (v u : ℕ) → state_line_at names t ≡ read v u → marks_left names (drop (u - 2 * names) t) ≡ true
 unfolding marks_left
 line_marks zero t v u h = refl
 line_marks (suc k) t v u h = (row_tail k t v u h).0
 
-line_fields : (names : ℕ) (t : Text) (v u : ℕ) → state_line_at names t ≡ Value v u → fields_left names (drop (u - 2 * names) t) ≡ tail (fields_at t)
+line_fields : (names : ℕ) (t : Text) (v u : ℕ) → state_line_at names t ≡ read v u → fields_left names (drop (u - 2 * names) t) ≡ tail (fields_at t)
 unfolding fields_left
 line_fields zero t v u h = sym (row_bare t v u h)
 line_fields (suc k) t v u h = (row_tail k t v u h).1
@@ -67,56 +68,54 @@ module _ (s : Text) (names : ℕ) (w₀ : List ℕ) where
   start_none h = rw (later_none s h) (table_none (state_word s) w₀)
 
 -- a row that was read
-module _ {r : Num} {x u : ℕ} (h : r ≡ Value x u) (names : ℕ) (t : Text) where
-  pub marks_ahead : r ≡ state_line_at names t → marks_left names (take (length t - (u - 2 * names)) (drop (u - 2 * names) t)) ≡ true
-  marks_ahead g = rw rest_is (line_marks names t x u (sym g ∙ h))
+module _ {r : Option Numeral} {n : Numeral} (h : r ≡ Some n) (names : ℕ) (t : Text) where
+  pub marks_ahead : r ≡ state_line_at names t → marks_left names (take (length t - (n.used - 2 * names)) (drop (n.used - 2 * names) t)) ≡ true
+  marks_ahead g = rw rest_is (line_marks names t n.value n.used (sym g ∙ h))
 
   module _ (f : StateLineFits names (length t) r) where
-    pub number_ends : 2 * names ≤ u
+    pub number_ends : 2 * names ≤ n.used
     number_ends = let k = rw h at f in omega arith
 
-    pub marks_begin : u - 2 * names ≤ length t
+    pub marks_begin : n.used - 2 * names ≤ length t
     marks_begin = omega (arith, line_ends h names t f)
 
 module _ {s : Text} {names : ℕ} {w₀ w : List ℕ} {t : Text} {j : ℕ} (v : Storing s names w₀ w t j) where
-  pub done : length t ≤ 0 → Table (state_word s) w₀ w (states_of s)
-  unfolding states_of
-  done h = table_done v.table v.place (drop_none (later_lines s) j (v.left ∙ lines_end t h))
+  -- all words are stored
+  pub filled : states_of s ≤ length w₀ → length w₀ ≤ j → Table (state_word s) w₀ w (states_of s)
+  filled l h = table_done v.table v.place (omega arith)
 
   pub sized : length w ≡ length w₀
   sized = v.table.same
 
-  module _ {r : Num} (g : r ≡ state_line_at names t) where
-    pub never_bad : 0 < length t → r ≡ Bad → ⊥
-    never_bad l h = true≢false (sym v.passes ∙ pass_not (state_line (suc names)) t l (untold names t (sym g ∙ h)))
+  module _ {r : Option Numeral} (g : r ≡ state_line_at names t) where
+    -- no line is left
+    pub done : r ≡ None → Table (state_word s) w₀ w (states_of s)
+    unfolding states_of
+    done h = table_done v.table v.place (drop_none (later_lines s) j (v.left ∙ lines_end t (none_left (ltb 0 (length t)) refl)))
+      where
+        none_left : (x : Bool) → ltb 0 (length t) ≡ x → length t ≤ 0
+        none_left true e = absurd (true≢false (sym v.passes ∙ pass_not (state_line (suc names)) t (ltb-true _ _ e) (untold names t (sym g ∙ h))))
+        none_left false e = ltb-false _ _ e
 
-    module _ {x u : ℕ} (h : r ≡ Value x u) (l : states_of s ≤ length w₀) where
-      is : state_line_at names t ≡ Value x u
+    module _ {n : Numeral} (h : r ≡ Some n) where
+      is : state_line_at names t ≡ Some n
       is = sym g ∙ h
 
       here : (j < length (later_lines s)) × (get_or (later_lines s) j [] ≡ line_at t) × (drop (suc j) (later_lines s) ≡ lines_of (next_line t))
-      here = drop_here (later_lines s) j [] (line_at t) (lines_of (next_line t)) (v.left ∙ lines_are t (told names t x u is).ended)
+      here = drop_here (later_lines s) j [] (line_at t) (lines_of (next_line t)) (v.left ∙ lines_are t (told names t n.value n.used is).ended)
 
-      pub room : j < length w
-      unfolding states_of
-      room = omega (arith, l, here.0, v.table.same)
-
-      pub offset_fits : length w₀ * 8 < 2 ^ 63 → Fits w64 (j * 8)
-      offset_fits b = omega (arith, room, sized)
-
-      pub next_fits : length w₀ < 2 ^ 64 → Fits w64 (j + 1)
-      next_fits b = omega (arith, room, sized)
-
-      pub turn : {n : ℕ} → n ≡ marks_word (fields_left names (take (length t - (u - 2 * names)) (drop (u - 2 * names) t)))
-          → Storing s names w₀ (set w j n) (take (length t - u) (drop u t)) (j + 1)
+      pub turn : states_of s ≤ length w₀ → {word : ℕ} → word ≡ marks_word (fields_left names (take (length t - (n.used - 2 * names)) (drop (n.used - 2 * names) t)))
+          → Storing s names w₀ (set w j word) (take (length t - n.used) (drop n.used t)) (j + 1)
       unfolding states_of state_word
-      turn {n} q =
-          let y = told names t x u is in
-          let e : n ≡ state_word s j = (rw rest_is at q) ∙ rw (line_fields names t x u is, here.1) in
+      turn l {word} q =
+          let y = told names t n.value n.used is in
+          let e : word ≡ state_word s j = (rw rest_is at q) ∙ rw (line_fields names t n.value n.used is, here.1) in
           rw rest_is
           record {
             left = rw (add-one j, here.2, y.its_bytes);
             passes = sym (rw y.its_bytes at (pass_more (state_line (suc names)) t y.ended y.passes)) ∙ v.passes;
-            table = table_more n v.table room e;
+            table = table_more word v.table (omega (arith, l, here.0, v.table.same)) e;
             place = omega (arith, here.0);
           }
+
+pub ruleset store_laws = (start, start_none, marks_ahead, number_ends, marks_begin, filled, sized, done, turn)

@@ -1,13 +1,15 @@
 -- The word of marks, mark by mark. Assumes nothing.
-use mathlib.Core.Path.{◌≡◌, refl}
-use Prim.Native.Nat.{ℕ, zero, suc, ◌+◌, ◌*◌, ◌-◌, ◌^◌, ◌≤◌, ◌<◌}
+use mathlib.Core.Path.{◌≡◌, refl, ◌∙◌}
+use Prim.Native.Nat.{ℕ, zero, suc, ◌+◌, ◌*◌, ◌-◌, ◌%◌, ◌^◌, ◌≤◌, ◌<◌}
 use native.Mathlib.Omega.{arith}
+use native.Mathlib.Numerals.{add-one}
 use native.Mathlib.Nat.{pow-suc, pow-le-pow_right, sub_self}
 use mathlib.Core.Bool.{Bool, true, false, cond, ◌&&◌, and-true, and-eq-true_iff}
 use mathlib.Core.List.{[], ◌∷◌}
-use lib.ListN.{length, get_or, drop}
+use lib.ListN.{length, get_or, drop, length-drop}
 use lib.Dec.{eqb}
-use borrow.Author.Tests.{ltb-true}
+use borrow.Author.Tests.{ltb-true, ne_eqb}
+use Rattle.std.proofs.lemmas.List.{get_or-drop, drop-drop}
 use Rattle.csl.specs.Text.{Text, same, every}
 use Rattle.csl.specs.Line.{line_feed}
 use Rattle.csl.specs.Labels.{is_mark}
@@ -57,12 +59,6 @@ module _ (s : Text) (count : ℕ) where
   start m h = record { within = omega arith; most = m; marks = h; whole = omega arith; power = rw (sub_self count); below = omega arith }
 
   module _ (t : Text) (left sum value : ℕ) (v : Wording s count t left sum value) where
-    pub small : value ≤ 65536
-    small = omega (arith, v.power, pow-le-pow_right {n = 2} (omega arith) (shorter v.most))
-      where
-        shorter : count ≤ 16 → count - left ≤ 16
-        shorter h = omega arith
-
     module _ (l : 0 < left) where
       pub turn : (b : ℕ) → b ≡ cond (eqb (get_or t 0 0) 49) value 0 → Wording s count (drop 2 t) (left - 1) (sum + b) (value * 2)
       unfolding marks_word
@@ -93,3 +89,32 @@ module _ (s : Text) (count : ℕ) where
     pub done : left ≤ 0 → sum ≡ marks_word (fields_left count s)
     unfolding marks_word fields_left
     done h = let e : left ≡ 0 = omega arith in omega (arith, rw e at v.whole)
+
+-- the place that the code reads, and what it adds there
+module _ {s : Text} {count i sum : ℕ} (v : Wording s count (drop (2 * i) s) (count - i) sum (2 ^ i)) (l : i < count) where
+  pub mark_there : 2 * i < length s
+  mark_there = omega (arith, length-drop (2 * i) s, mark_bytes (count - i) (drop (2 * i) s) (omega arith) v.marks)
+
+  mark_on : (b : ℕ) → b ≡ cond (eqb (get_or s (2 * i) 0) 49) (2 ^ i) 0
+      → Wording s count (drop (2 * (i + 1)) s) (count - (i + 1)) (sum + b) (2 ^ (i + 1))
+  mark_on b e =
+      let place : 2 * i + 0 ≡ 2 * i = omega arith in
+      let next : 2 * (i + 1) ≡ 2 * i + 2 = omega arith in
+      let fewer : count - (i + 1) ≡ count - i - 1 = omega arith in
+      let power : 2 ^ (i + 1) ≡ 2 ^ i * 2 = rw (add-one i, pow-suc 2 i) (omega arith) in
+      rw (next, ← drop-drop 2 (2 * i) s, fewer, power)
+      (turn s count (drop (2 * i) s) (count - i) sum (2 ^ i) v (omega arith) b (e ∙ rw (get_or-drop (2 * i) s 0 0, place)))
+
+  -- the bit `1 << i`, in 64 bits
+  bit_fits : 1 * 2 ^ i % 18446744073709551616 ≡ 2 ^ i
+  bit_fits =
+      let few : i ≤ 16 = omega (arith, v.most) in
+      let b : 2 ^ i ≤ 2 ^ 16 = pow-le-pow_right {n = 2} (omega arith) few in
+      omega arith
+
+  pub mark_yes : get_or s (2 * i) 0 ≡ 49
+      → Wording s count (drop (2 * (i + 1)) s) (count - (i + 1)) (sum + 1 * 2 ^ i % 18446744073709551616) (2 ^ (i + 1))
+  mark_yes h = rw bit_fits (mark_on (2 ^ i) (rw h))
+
+  pub mark_no : (get_or s (2 * i) 0 ≡ 49 → ⊥) → Wording s count (drop (2 * (i + 1)) s) (count - (i + 1)) sum (2 ^ (i + 1))
+  mark_no h = let e : sum + 0 ≡ sum = omega arith in rw e at (mark_on 0 (rw (ne_eqb (get_or s (2 * i) 0) 49 h)))

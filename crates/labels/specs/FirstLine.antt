@@ -1,18 +1,14 @@
 -- The first line of the labels text. Assumes nothing.
-use Rattle.std.specs.Prelude.{ℕ, ◌+◌, Bool, cond, ◌&&◌, length, leb, eqb}
-use mathlib.Core.List.{[], ◌∷◌, head_d, tail}
+use Rattle.std.specs.Prelude.{ℕ, Bool, ◌&&◌, length, leb, eqb, count_by}
+use mathlib.Core.List.{[], head_d, tail}
 use Rattle.csl.specs.Text.{Text, bytes, same, every}
 use Rattle.csl.specs.Limits.{most_names}
 use Rattle.csl.specs.Line.{comma, fields_of}
 use Rattle.csl.specs.Labels.{is_name, no_repeat}
 
--- one more where the byte is a comma
-abbrev pub comma_more : ℕ → ℕ → ℕ
-comma_more b n = cond (eqb b comma) (n + 1) n
-
-unfoldable pub commas_in : Text → ℕ
-commas_in [] = 0
-commas_in (b ∷ t) = comma_more b (commas_in t)
+-- how many commas stand in a text
+abbrev pub commas_in : Text → ℕ
+commas_in t = count_by (λ b. eqb b comma) t
 
 -- "First line: `state`, then up to 16 label names, separated by commas." `labels_head` of a text's first line
 unfoldable pub is_first_line : Text → Bool

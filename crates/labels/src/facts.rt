@@ -1,15 +1,13 @@
 // The facts of a labels text that the refusals ask for.
-ghost use Rattle.std.specs.Prelude.{◌≡◌, cond};
-ghost use Rattle.labels.specs.Facts.{bare, broken, facts_from, labels_facts};
+ghost use Rattle.std.specs.Prelude.{◌≡◌};
+ghost use Rattle.labels.specs.Facts.{labels_facts};
 
 use crate::lines::{StateLines, state_lines};
 use crate::names::{commas, first_line};
 
-// What the refusals ask of the labels text, how many names it has, and the bytes of its first line. All but `layout` speak of a text
-// whose layout is right.
+// What the refusals ask of a labels text whose layout is right, how many names it has, and the bytes of its first line.
 #[derive(Clone, Copy)]
 pub struct LabelsFacts {
-    pub layout: bool,
     pub head: bool,
     pub states: usize,
     pub turn: bool,
@@ -17,51 +15,35 @@ pub struct LabelsFacts {
     pub first: usize,
 }
 
-// A text with no line feed: the empty one has its layout right.
-fn unended(layout: bool) -> LabelsFacts
-    ensures { result ≡ cond layout bare broken }
-{
-    LabelsFacts {
-        layout: layout,
-        head: false,
-        states: 0,
-        turn: layout,
-        names: 0,
-        first: 0,
-    }
-}
+// The empty text: its layout is right, and it has no first line.
+const BARE: LabelsFacts = LabelsFacts {
+    head: false,
+    states: 0,
+    turn: true,
+    names: 0,
+    first: 0,
+};
 
-// The facts of a labels text, from its first line and its other lines.
-fn facts_of(head: bool, names: usize, first: usize, lines: StateLines) -> LabelsFacts
-    ensures { result ≡ facts_from head names first lines }
-{
-    match lines {
-        StateLines::Broken => unended(false),
-        StateLines::Lines(count, turn) => LabelsFacts {
-            layout: true,
-            head: head,
-            states: count,
-            turn: turn,
-            names: names,
-            first: first,
-        },
-    }
-}
-
-// The facts of a labels text.
-pub fn read(s: &[u8]) -> LabelsFacts
+// The facts of a labels text; none where its layout is broken.
+#[tactic(auto, using(crate::proofs::LinesLaw::facts_laws))]
+pub fn read(s: &[u8]) -> Option<LabelsFacts>
     ensures { result ≡ labels_facts s.now }
 {
-    let end = texts::span(s, b'\n');
-    if s.len() <= end {
-        return unended(s.len() == 0);
+    if s.is_empty() {
+        return Some(BARE);
     }
-    let line = &s[..end];
+    let first = texts::span(s, b'\n');
+    if s.len() <= first {
+        return None;
+    }
+    let line = &s[..first];
     let names = commas(line);
-    facts_of(
-        first_line(line),
+    let StateLines { count, turn } = state_lines(&s[first + 1..], names)?;
+    Some(LabelsFacts {
+        head: first_line(line),
+        states: count,
+        turn,
         names,
-        end,
-        state_lines(&s[end + 1..], names),
-    )
+        first,
+    })
 }

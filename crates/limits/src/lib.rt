@@ -1,9 +1,7 @@
-// The limits, units and sizes of documents 01 and 02 as constants of the code. `all` holds all of them, and its promise says that each is the
-// number that crates/csl has under the same name.
+// The limits, units and sizes of documents 01 and 02 as constants of the code. specs/Tied.antt says that each is the number that crates/csl has
+// under the same name.
 
 #![tactic(auto)]
-
-ghost use Rattle.limits.specs.Tied.{Tied};
 
 // Ends and thresholds count billionths.
 pub const BILLION: u64 = 1000000000;
@@ -63,60 +61,3 @@ pub const VECTOR_SPARE: usize = 512;
 
 // The lent mark bytes: one for each state in so many rows at most.
 pub const MOST_ROWS: usize = 17;
-
-// All constants, each under one word.
-#[derive(Clone, Copy)]
-struct Limits {
-    billion: u64,
-    numbers: usize,
-    fields: usize,
-    names: usize,
-    letters: usize,
-    states: usize,
-    moves: usize,
-    rate: u64,
-    formula: usize,
-    sheet: usize,
-    nodes: usize,
-    levels: usize,
-    threshold: u64,
-    hour: u64,
-    time: u64,
-    load: u64,
-    unit: u64,
-    spare: u64,
-    words: usize,
-    places: usize,
-    besides: usize,
-    rows: usize,
-}
-
-// The constants are the definition's numbers. Nothing calls this: it is here to be proved.
-fn all() -> Limits
-    ensures { Tied result }
-{
-    Limits {
-        billion: BILLION,
-        numbers: FORMULA_DIGITS,
-        fields: SHEET_DIGITS,
-        names: MOST_NAMES,
-        letters: MOST_LETTERS,
-        states: MOST_STATES,
-        moves: MOST_MOVES,
-        rate: MOST_RATE,
-        formula: FORMULA_BYTES,
-        sheet: SHEET_BYTES,
-        nodes: MOST_NODES,
-        levels: MOST_LEVELS,
-        threshold: MOST_THRESHOLD,
-        hour: HOUR,
-        time: MOST_HUNDREDTHS,
-        load: MOST_RATE_HUNDREDTHS,
-        unit: RATE_HUNDREDTHS,
-        spare: SPARE_STEPS,
-        words: MOVE_PLACES,
-        places: VECTOR_PLACES,
-        besides: VECTOR_SPARE,
-        rows: MOST_ROWS,
-    }
-}

@@ -57,3 +57,5 @@ module _ (t : Text) (h : (is_ended_at t && move_line (line_at t)) ≡ true) wher
               used_is = sym (their_bytes read);
               within = omega (arith, k.within, second.within, third.within, length-drop a t, length-drop b (drop a t));
             }
+
+pub ruleset known_laws = (first_there, second_there, third_there)

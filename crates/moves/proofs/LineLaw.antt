@@ -16,22 +16,21 @@ use Rattle.csl.specs.Moves.{move_line, move_of, field_value}
 use Rattle.texts.specs.Digits.{digit_run}
 use Rattle.texts.specs.Span.{span_of}
 use Rattle.texts.specs.Cut.{rest_is}
-use Rattle.texts.specs.declared.digits.Num.{Num}
-use Rattle.texts.specs.declared.digits.Num.TheVariants.{Value}
-use Rattle.texts.specs.declared.digits.Num.TheVariants as num
+use Rattle.std.specs.Prelude.{Option, Some, None}
+use Rattle.texts.specs.declared.digits.Numeral.{Numeral}
+use Rattle.texts.specs.Digits.{read}
 use Rattle.texts.specs.LineAt.{line_at, is_ended_at, fields_at}
 use Rattle.texts.specs.Field.{field_at, FieldFits}
 use Rattle.texts.specs.FieldsPass.{fields_pass}
 use Rattle.texts.specs.Numbers.{numbers_in, numbers_more, numbers_last, Reading, reading, comma_fields, comma_span, feed_fields, feed_span}
-use Rattle.moves.specs.Line.{move_at, LineFits}
-use Rattle.moves.specs.declared.lines.Line.TheVariants.{Move, Bad}
+use Rattle.moves.specs.Line.{move_at, line_of, LineFits}
 
 -- an ended line of three numbers
 pub line_test : (t : Text) → (is_ended_at t && move_line (line_at t)) ≡ numbers_in 3 t
 unfolding move_line fields_pass
 line_test t = sym (and_assoc (is_ended_at t) (eqb (length (fields_at t)) 3) (every (is_number sheet_digits) (fields_at t)))
 
-line_bad : (t : Text) → numbers_in 3 t ≡ false → move_at t ≡ Bad
+line_bad : (t : Text) → numbers_in 3 t ≡ false → move_at t ≡ None
 unfolding move_at
 line_bad t h = rw (line_test t, h)
 
@@ -54,18 +53,18 @@ module _ {t : Text} {f a o b r c : ℕ} (x : Fields t f a o b r c) where
   their_bytes = omega (arith, comma_span t f a x.first, comma_span (drop a t) o b x.second, feed_span (drop b (drop a t)) r c x.third)
 
 module _ (t : Text) where
-  bad_first : field_at comma t ≡ num.Bad → move_at t ≡ Bad
+  bad_first : field_at comma t ≡ None → move_at t ≡ None
   bad_first e = line_bad t (numbers_more 1 t ∙ rw e)
 
-  module _ (f a : ℕ) (e₁ : field_at comma t ≡ Value f a) where
-    bad_second : field_at comma (drop a t) ≡ num.Bad → move_at t ≡ Bad
+  module _ (f a : ℕ) (e₁ : field_at comma t ≡ read f a) where
+    bad_second : field_at comma (drop a t) ≡ None → move_at t ≡ None
     bad_second e = line_bad t (numbers_more 1 t ∙ rw e₁ (numbers_more 0 (drop a t) ∙ rw e))
 
-    module _ (o b : ℕ) (e₂ : field_at comma (drop a t) ≡ Value o b) where
-      bad_third : field_at line_feed (drop b (drop a t)) ≡ num.Bad → move_at t ≡ Bad
+    module _ (o b : ℕ) (e₂ : field_at comma (drop a t) ≡ read o b) where
+      bad_third : field_at line_feed (drop b (drop a t)) ≡ None → move_at t ≡ None
       bad_third e = line_bad t (numbers_more 1 t ∙ rw e₁ (numbers_more 0 (drop a t) ∙ rw e₂ (numbers_last (drop b (drop a t)) ∙ rw e)))
 
-      module _ (r c : ℕ) (e₃ : field_at line_feed (drop b (drop a t)) ≡ Value r c) where
+      module _ (r c : ℕ) (e₃ : field_at line_feed (drop b (drop a t)) ≡ read r c) where
         three : numbers_in 3 t ≡ true
         three = numbers_more 1 t ∙ rw e₁ (numbers_more 0 (drop a t) ∙ rw e₂ (numbers_last (drop b (drop a t)) ∙ rw e₃))
 
@@ -77,7 +76,7 @@ module _ (t : Text) where
               third = reading line_feed (drop b (drop a t)) r c e₃;
             }
 
-        line_read : move_at t ≡ Move f o r (a + b + c)
+        line_read : move_at t ≡ line_of (record { from = f; to = o; rate = r }) (a + b + c)
         unfolding move_at
         line_read = rw (line_test t, three, their_move their, their_bytes their)
 
@@ -86,49 +85,53 @@ abbrev pub rest : Text → ℕ → Text
 rest t a = take (length t - a) (drop a t)
 
 -- the bytes of a field that was read
-pub field_ends : {r : Num} {v u : ℕ} → r ≡ Value v u → (size : ℕ) → FieldFits size r → u ≤ size
+pub field_ends : {r : Option Numeral} {n : Numeral} → r ≡ Some n → (size : ℕ) → FieldFits size r → n.used ≤ size
 field_ends h size f = let k = rw h at f in omega arith
 
 -- by the answers that the code has: each field is read from the rest behind the one before it
-module _ (t : Text) {r₁ : Num} (g₁ : r₁ ≡ field_at comma t) where
-  pub first_bad : r₁ ≡ num.Bad → Bad ≡ move_at t
+module _ (t : Text) {r₁ : Option Numeral} (g₁ : r₁ ≡ field_at comma t) where
+  pub first_bad : r₁ ≡ None → None ≡ move_at t
   first_bad h = sym (bad_first t (sym g₁ ∙ h))
 
-  module _ {f a : ℕ} (h₁ : r₁ ≡ Value f a) {r₂ : Num} (g₂ : r₂ ≡ field_at comma (rest t a)) where
-    pub second_bad : r₂ ≡ num.Bad → Bad ≡ move_at t
-    second_bad h = sym (bad_second t f a (sym g₁ ∙ h₁) (sym (rw rest_is at g₂) ∙ h))
+  module _ {n₁ : Numeral} (h₁ : r₁ ≡ Some n₁) {r₂ : Option Numeral} (g₂ : r₂ ≡ field_at comma (rest t n₁.used)) where
+    pub second_bad : r₂ ≡ None → None ≡ move_at t
+    second_bad h = sym (bad_second t n₁.value n₁.used (sym g₁ ∙ h₁) (sym (rw rest_is at g₂) ∙ h))
 
-    module _ {o b : ℕ} (h₂ : r₂ ≡ Value o b) {r₃ : Num} (g₃ : r₃ ≡ field_at line_feed (rest (rest t a) b)) where
-      pub third_bad : r₃ ≡ num.Bad → Bad ≡ move_at t
-      third_bad h = sym (bad_third t f a (sym g₁ ∙ h₁) o b (sym (rw rest_is at g₂) ∙ h₂) (sym (rw (rest_is, rest_is) at g₃) ∙ h))
+    module _ {n₂ : Numeral} (h₂ : r₂ ≡ Some n₂) {r₃ : Option Numeral} (g₃ : r₃ ≡ field_at line_feed (rest (rest t n₁.used) n₂.used)) where
+      pub third_bad : r₃ ≡ None → None ≡ move_at t
+      third_bad h =
+          sym (bad_third t n₁.value n₁.used (sym g₁ ∙ h₁) n₂.value n₂.used (sym (rw rest_is at g₂) ∙ h₂) (sym (rw (rest_is, rest_is) at g₃) ∙ h))
 
-      module _ {x c : ℕ} (h₃ : r₃ ≡ Value x c) where
-        pub all_read : Move f o x (a + b + c) ≡ move_at t
+      module _ {n₃ : Numeral} (h₃ : r₃ ≡ Some n₃) where
+        pub all_read : line_of (record { from = n₁.value; to = n₂.value; rate = n₃.value }) (n₁.used + n₂.used + n₃.used) ≡ move_at t
         all_read =
-            sym (line_read t f a (sym g₁ ∙ h₁) o b (sym (rw rest_is at g₂) ∙ h₂) x c (sym (rw (rest_is, rest_is) at g₃) ∙ h₃))
+            sym (
+            line_read t n₁.value n₁.used (sym g₁ ∙ h₁) n₂.value n₂.used (sym (rw rest_is at g₂) ∙ h₂) n₃.value n₃.used
+            (sym (rw (rest_is, rest_is) at g₃) ∙ h₃)
+            )
 
 -- and their bytes together
-module _ (t : Text) {r₁ r₂ : Num} {f a o b : ℕ} (h₁ : r₁ ≡ Value f a) (f₁ : FieldFits (length t) r₁) (h₂ : r₂ ≡ Value o b)
-    (f₂ : FieldFits (length (rest t a)) r₂) where
-  two_end : a + b ≤ length t
+module _ (t : Text) {r₁ r₂ : Option Numeral} {n₁ n₂ : Numeral} (h₁ : r₁ ≡ Some n₁) (f₁ : FieldFits (length t) r₁) (h₂ : r₂ ≡ Some n₂)
+    (f₂ : FieldFits (length (rest t n₁.used)) r₂) where
+  two_end : n₁.used + n₂.used ≤ length t
   two_end =
       let k₁ = rw h₁ at f₁ in
       let k₂ = rw (rest_is, h₂) at f₂ in
-      omega (arith, length-drop a t)
+      omega (arith, length-drop n₁.used t)
 
-  pub two_fit : length t < 2 ^ 64 → Fits w64 (a + b)
+  pub two_fit : length t < 2 ^ 64 → Fits w64 (n₁.used + n₂.used)
   two_fit l = omega (arith, two_end)
 
-  module _ {r₃ : Num} {x c : ℕ} (h₃ : r₃ ≡ Value x c) (f₃ : FieldFits (length (rest (rest t a) b)) r₃) where
-    pub read_fits : LineFits (length t) (Move f o x (a + b + c))
+  module _ {r₃ : Option Numeral} {n₃ : Numeral} (h₃ : r₃ ≡ Some n₃) (f₃ : FieldFits (length (rest (rest t n₁.used) n₂.used)) r₃) where
+    pub read_fits : LineFits (length t) (line_of (record { from = n₁.value; to = n₂.value; rate = n₃.value }) (n₁.used + n₂.used + n₃.used))
     read_fits =
         let k₁ = rw h₁ at f₁ in
         let k₂ = rw (rest_is, h₂) at f₂ in
         let k₃ = rw (rest_is, rest_is, h₃) at f₃ in
-        let l : a + b + c ≤ length t = omega (arith, length-drop a t, length-drop b (drop a t)) in
+        let l : n₁.used + n₂.used + n₃.used ≤ length t = omega (arith, length-drop n₁.used t, length-drop n₂.used (drop n₁.used t)) in
         (k₁.0, k₂.0, k₃.0, omega arith, l)
 
-    pub three_fit : length t < 2 ^ 64 → Fits w64 (a + b + c)
+    pub three_fit : length t < 2 ^ 64 → Fits w64 (n₁.used + n₂.used + n₃.used)
     three_fit l = omega (arith, read_fits.4)
 
 pub ruleset line_laws = (field_ends, first_bad, second_bad, third_bad, all_read, two_fit, three_fit, read_fits)

@@ -1,13 +1,11 @@
 -- The moves of a text, stored word by word. Assumes nothing.
 use mathlib.Core.Path.{◌≡◌, sym, ◌∙◌}
-use Prim.Native.Nat.{ℕ, suc, ◌+◌, ◌*◌, ◌-◌, ◌^◌, ◌≤◌, ◌<◌}
+use Prim.Native.Nat.{ℕ, suc, ◌+◌, ◌-◌, ◌≤◌, ◌<◌}
 use native.Mathlib.Omega.{arith}
 use native.Mathlib.Numerals.{add-one}
 use mathlib.Core.Bool.{true, ◌&&◌, and-eq-true_iff}
 use mathlib.Core.List.{List, map}
 use lib.ListN.{length, take, drop, get_or, set}
-use mir.Val.{Fits}
-use mir.Syntax.{w64}
 use Rattle.csl.specs.Text.{Text}
 use Rattle.csl.specs.Line.{line_feed, lines_of}
 use Rattle.csl.specs.Moves.{move_line, move_of, moves_layout, moves_of}
@@ -50,6 +48,10 @@ module _ {s : Text} {w₀ w : List ℕ} {t : Text} {j : ℕ} (v : Storing s w₀
   pub done : length t ≤ 0 → Table (move_word s) w₀ w (length (moves_of s))
   done h = table_done v.table v.place (drop_none (moves_of s) j (v.left ∙ rw (lines_end t h)))
 
+  -- all words are stored
+  pub filled : length (moves_of s) ≤ length w₀ → length w₀ ≤ j → Table (move_word s) w₀ w (length (moves_of s))
+  filled l h = table_done v.table v.place (omega arith)
+
   pub sized : length w ≡ length w₀
   sized = v.table.same
 
@@ -64,15 +66,6 @@ module _ {s : Text} {w₀ w : List ℕ} {t : Text} {j : ℕ} (v : Storing s w₀
     here = drop_here (moves_of s) j no_move (move_of (line_at t)) (map move_of (lines_of (next_line t))) (v.left ∙ rw (lines_are t both.0))
 
     module _ (l : length (moves_of s) ≤ length w₀) where
-      pub room : j < length w
-      room = omega (arith, l, here.0, v.table.same)
-
-      pub offset_fits : length w₀ * 8 < 2 ^ 63 → Fits w64 (j * 8)
-      offset_fits b = omega (arith, room, sized)
-
-      pub next_fits : length w₀ < 2 ^ 64 → Fits w64 (j + 1)
-      next_fits b = omega (arith, room, sized)
-
       pub turn : {n u : ℕ} → WordAt t n u → Storing s w₀ (set w j n) (take (length t - u) (drop u t)) (j + 1)
       turn {n} {u} y =
           let e : n ≡ move_word s j = y.word_is ∙ rw here.1 in
@@ -80,6 +73,8 @@ module _ {s : Text} {w₀ w : List ℕ} {t : Text} {j : ℕ} (v : Storing s w₀
           record {
             left = rw (add-one j) here.2;
             passes = sym (pass_more move_line t both.0 both.1) ∙ v.passes;
-            table = table_more n v.table room e;
+            table = table_more n v.table (omega (arith, l, here.0, v.table.same)) e;
             place = omega (arith, here.0);
           }
+
+pub ruleset store_laws = (start, start_none, done, filled, sized, line_passes, turn)

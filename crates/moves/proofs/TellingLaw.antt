@@ -18,8 +18,8 @@ use Rattle.accepted.specs.Order.{neither}
 use Rattle.accepted.specs.Rates.{Within, within_tested, Moving, moving_tested, rates_tested, others, others_slower}
 use Rattle.moves.specs.Totals.{too_high, carried}
 use Rattle.moves.specs.Tally.{any_still, Tallied}
-use Rattle.moves.specs.Facts.{facts_with, facts_in}
-use Rattle.moves.specs.declared.facts.MovesFacts.{MovesFacts}
+use Rattle.moves.specs.Facts.{top_of}
+use Rattle.std.specs.Prelude.{Some, None}
 use Rattle.moves.specs.declared.tally.Tally.{Tally}
 use Rattle.moves.proofs.TotalsLaw.{own_low, leaving}
 use Rattle.moves.proofs.TallyLaw.{same_pair}
@@ -58,10 +58,10 @@ pub record Telling (n : ℕ) (ms : List Move) (top : ℕ) : Type 0 where
   pub top_told : wrong_rate ms ≡ false → top ≡ greatest (rates_out (others ms)) n
 
 module _ {n : ℕ} {ms : List Move} {a : Tally} {totals owns : List ℕ} (t : Tallied n ms [] a totals owns) where
-  count_is : a.count ≡ length ms
+  pub count_is : a.count ≡ length ms
   count_is = omega (arith, t.counted)
 
-  strange_is : a.strange ≡ strange_state n ms
+  pub strange_is : a.strange ≡ strange_state n ms
   unfolding any
   strange_is = sym (or-false a.strange) ∙ t.strange_told
 
@@ -113,25 +113,22 @@ module _ {n : ℕ} {ms : List Move} {a : Tally} {totals owns : List ℕ} (t : Ta
         go true false true d e f = refl
         go true false false d e f = sym d ∙ not_wrong e (ltb-false _ _ f)
 
--- by the answers that the code has: the facts where states are strange or too many, where test 9 holds, and where it does not
-module _ (n : ℕ) (head : Bool) (a : Tally) (totals owns : List ℕ) where
-  pub facts_unknown : {r : MovesFacts} → (a.strange || ltb most_states n) ≡ true → r ≡ facts_with head a false 0
-      → (ms : List Move) → Tallied n ms [] a totals owns → r ≡ facts_in n head ms
-  facts_unknown h e ms t = e ∙ rw (count_is t, rw (strange_is t) at h, strange_is t)
+-- by the answers that the code has: the greatest rate where states are strange or too many, where test 9 holds, and where it does not
+module _ (n : ℕ) (a : Tally) (totals owns : List ℕ) where
+  pub top_unknown : (a.strange || ltb most_states n) ≡ true → (ms : List Move) → Tallied n ms [] a totals owns → None ≡ top_of n ms
+  top_unknown h ms t = rw (rw (strange_is t) at h)
 
   module _ (h : (a.strange || ltb most_states n) ≡ false) {top : ℕ} (g : top ≡ greatest (leaving totals owns) n) where
     told : {ms : List Move} → Tallied n ms [] a totals owns → Telling n ms top
     told t = let p = neither a.strange (ltb most_states n) h in rw g (totals_tell t (ltb-false most_states n p.1) p.0)
 
-    pub facts_wrong : {r : MovesFacts} → (a.still || ltb most_rate top) ≡ true → r ≡ facts_with head a false 0
-        → (ms : List Move) → Tallied n ms [] a totals owns → r ≡ facts_in n head ms
-    facts_wrong k e ms t = e ∙ rw (count_is t, rw (strange_is t) at h, (told t).wrong_told, rw (still_is t) at k, strange_is t)
+    pub top_wrong : (a.still || ltb most_rate top) ≡ true → (ms : List Move) → Tallied n ms [] a totals owns → None ≡ top_of n ms
+    top_wrong k ms t = rw (rw (strange_is t) at h, (told t).wrong_told, rw (still_is t) at k)
 
-    pub facts_good : {r : MovesFacts} → (a.still || ltb most_rate top) ≡ false → r ≡ facts_with head a true top
-        → (ms : List Move) → Tallied n ms [] a totals owns → r ≡ facts_in n head ms
-    facts_good k e ms t =
+    pub top_good : (a.still || ltb most_rate top) ≡ false → (ms : List Move) → Tallied n ms [] a totals owns → Some top ≡ top_of n ms
+    top_good k ms t =
         let w : wrong_rate ms ≡ false = (told t).wrong_told ∙ (rw (still_is t) at k) in
-        e ∙ rw (count_is t, rw (strange_is t) at h, w, (told t).top_told w, strange_is t)
+        rw (rw (strange_is t) at h, w, (told t).top_told w)
 
 pub few_states : {n : ℕ} (x : Bool) → (x || ltb most_states n) ≡ false → n ≤ most_states
 few_states {n} x h = ltb-false most_states n (neither x (ltb most_states n) h).1

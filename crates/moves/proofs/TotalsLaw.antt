@@ -1,6 +1,6 @@
 -- The totals as they are carried, one line more. Assumes nothing.
-use mathlib.Core.Path.{◌≡◌, refl, ap, ◌∙◌}
-use Prim.Native.Nat.{ℕ, zero, suc, ◌+◌, ◌≤◌, ◌<◌, max}
+use mathlib.Core.Path.{◌≡◌, refl, ◌∙◌}
+use Prim.Native.Nat.{ℕ, zero, suc, ◌+◌, ◌≤◌, max}
 use native.Mathlib.Omega.{arith}
 use native.Mathlib.Numerals.{add-one}
 use mathlib.Core.Bool.{Bool, true, false, cond, ◌&&◌}
@@ -85,20 +85,12 @@ module _ (totals owns : List ℕ) where
   abbrev pub leaving : ℕ → ℕ
   leaving s = away_of (at totals s) (at owns s)
 
-  pub record Seeking (states top s : ℕ) : Type 0 where
-    pub within : s ≤ states
-    pub so_far : top ≡ greatest leaving s
-
-  pub seek_none : (states : ℕ) → Seeking states 0 0
+  pub seek_none : 0 ≡ greatest leaving 0
   unfolding greatest
-  seek_none states = record { within = omega arith; so_far = refl }
+  seek_none = refl
 
-  module _ {states top s : ℕ} (v : Seeking states top s) where
-    pub seek_on : {x r : ℕ} → s < states → x ≡ away_of (at totals s) (at owns s) → r ≡ max top x → Seeking states r (s + 1)
-    unfolding greatest
-    seek_on h e g = record { within = omega arith; so_far = rw (add-one s, ← v.so_far, ← e) g }
+  pub seek_on : (s : ℕ) {top x r : ℕ} → top ≡ greatest leaving s → x ≡ away_of (at totals s) (at owns s) → r ≡ max top x → r ≡ greatest leaving (s + 1)
+  unfolding greatest
+  seek_on s v e g = rw (add-one s, ← v, ← e) g
 
-    pub seek_done : states ≤ s → top ≡ greatest leaving states
-    seek_done h = let z : s ≡ states = omega (arith, v.within) in v.so_far ∙ ap (greatest leaving) z
-
-pub ruleset seek_laws = (seek_none, seek_on)
+pub ruleset seek_laws = (own_part, seek_none, seek_on)

@@ -2,40 +2,30 @@
 ghost use Rattle.std.specs.Prelude.{◌≡◌, length};
 ghost use Rattle.moves.specs.Line.{move_at, LineFits};
 
-use texts::Num;
-
 // A line of three numbers, and its bytes with the line feed.
 #[derive(Clone, Copy)]
-pub enum Line {
-    Move {
-        from: u64,
-        to: u64,
-        rate: u64,
-        used: usize,
-    },
-    Bad,
+pub struct Line {
+    pub from: u64,
+    pub to: u64,
+    pub rate: u64,
+    pub used: usize,
 }
 
 // The move line at the start of t.
-pub fn move_line(t: &[u8]) -> Line
+#[tactic(auto, using(crate::proofs::LineLaw::line_laws))]
+pub fn move_line(t: &[u8]) -> Option<Line>
     ensures value { result ≡ move_at t.now }
     ensures within { LineFits (length t.now) result }
 {
-    let Num::Value(from, a) = texts::field(t, b',') else {
-        return Line::Bad;
-    };
-    let u = &t[a..];
-    let Num::Value(to, b) = texts::field(u, b',') else {
-        return Line::Bad;
-    };
-    let w = &u[b..];
-    let Num::Value(rate, c) = texts::field(w, b'\n') else {
-        return Line::Bad;
-    };
-    Line::Move {
-        from: from,
-        to: to,
-        rate: rate,
-        used: a + b + c,
-    }
+    let from = texts::field(t, b',')?;
+    let u = &t[from.used..];
+    let to = texts::field(u, b',')?;
+    let w = &u[to.used..];
+    let rate = texts::field(w, b'\n')?;
+    Some(Line {
+        from: from.value,
+        to: to.value,
+        rate: rate.value,
+        used: from.used + to.used + rate.used,
+    })
 }

@@ -24,20 +24,17 @@ impl Tally {
     }
 
     // One line more. Most lines have nothing to tell but their rate, and are done with first.
+    #[tactic(auto, using(crate::proofs::TallyLaw::plain_line))]
     pub fn add(self, states: u64, from: u64, to: u64, rate: u64) -> Tally
         requires { self.count < sheet_bytes }
         ensures { result ≡ added states self from to rate }
     {
         let count = self.count + 1;
         if from < states && to < states && 0 < rate {
-            return Tally {
-                count: count,
-                strange: self.strange,
-                still: self.still,
-            };
+            return Tally { count, ..self };
         }
         Tally {
-            count: count,
+            count,
             strange: self.strange | (states <= from) | (states <= to),
             still: self.still | (rate == 0),
         }

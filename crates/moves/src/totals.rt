@@ -1,6 +1,6 @@
 // The totals of the states' rates: for each state the sum of the rates on all its lines, and of those to the state itself. They are carried in
 // 32 bits; how is the affair of this module alone, and what they come to is stated by the moves (`Tallied`).
-ghost use Rattle.std.specs.Prelude.{◌≡◌, ◌+◌, ◌≤◌, ◌<◌, max};
+ghost use Rattle.std.specs.Prelude.{◌≡◌, ◌+◌, ◌≤◌, ◌<◌};
 ghost use Rattle.csl.specs.Limits.{billion, most_states};
 ghost use Rattle.csl.specs.Chain.{greatest};
 ghost use Rattle.numbers.specs.Filled.{at};
@@ -17,17 +17,12 @@ const TOO_HIGH: u32 = MOST_RATE + 1;
 // As many sums as there are states in the largest sheet.
 const PLACES: u64 = MOST_STATES as u64;
 
-// A sum and a rate more. Whether they come to too much is tested before they are added, since 32 bits may not hold it.
+// A sum and a rate more. They are added up to the most that 32 bits hold, which is too high as well.
 fn tested_sum(sum: u32, rate: u32) -> u32
     requires { sum ≤ too_high }
     ensures { result ≡ carried (sum + rate) }
 {
-    let room = TOO_HIGH - sum;
-    if room < rate {
-        return TOO_HIGH;
-    }
-    let both = sum + rate;
-    both
+    sum.saturating_add(rate).min(TOO_HIGH)
 }
 
 // Adds a rate to the sum of a state. A line may name a state past the last place; then the sums are not asked for.
@@ -36,11 +31,11 @@ fn add_rate(sums: &mut [u32; MOST_STATES], state: u64, rate: u64)
     ensures { sums.new ≡ rate_added sums.old state rate }
 {
     let place = (state % PLACES) as usize;
-    let sum = sums[place];
-    sums[place] = tested_sum(sum, rate as u32);
+    sums[place] = tested_sum(sums[place], rate as u32);
 }
 
 // One line more: its rate goes to the total of the state that it leaves, and to what goes to the own state where it does.
+#[tactic(auto, using(crate::proofs::TotalsLaw::total_low, crate::proofs::TotalsLaw::own_low))]
 pub fn add_line(
     totals: &mut [u32; MOST_STATES],
     owns: &mut [u32; MOST_STATES],
@@ -67,23 +62,15 @@ fn away(total: u32, own: u32) -> u32
     if MOST_RATE < total { TOO_HIGH } else { others }
 }
 
-// The greater of two numbers.
-fn greater(a: u32, b: u32) -> u32
-    ensures { result ≡ max a b }
-{
-    if a < b { b } else { a }
-}
-
 // The greatest that goes from one of the states to others; too high where a total is.
+#[tactic(auto, using(crate::proofs::TotalsLaw::seek_laws))]
 pub fn top_rate(totals: &[u32; MOST_STATES], owns: &[u32; MOST_STATES], states: usize) -> u32
     requires { Carried totals.now owns.now × (states ≤ most_states) }
     ensures { result ≡ greatest (λ s. away_of (at totals.now s) (at owns.now s)) states }
 {
     let mut top: u32 = 0;
-    let mut s: usize = 0;
-    while s < states {
-        top = greater(top, away(totals[s], owns[s]));
-        s += 1;
+    for s in 0..states {
+        top = top.max(away(totals[s], owns[s]));
     }
     top
 }

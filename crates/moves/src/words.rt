@@ -5,27 +5,25 @@ ghost use Rattle.texts.specs.LineAt.{line_at, is_ended_at};
 ghost use Rattle.numbers.specs.Filled.{Table};
 ghost use Rattle.moves.specs.Words.{move_word, WordAt};
 
-use texts::Known;
-
 // The word of the move line at the start of t, a line that has passed its tests, and its bytes with the line feed.
-fn known_line(t: &[u8]) -> Known
+#[tactic(auto, using(crate::proofs::KnownLaw::known_laws))]
+fn known_line(t: &[u8]) -> (u64, usize)
     requires { (is_ended_at t.now && csl.move_line (line_at t.now)) ≡ true }
-    ensures { WordAt t.now result.value result.used }
+    ensures { WordAt t.now result.0 result.1 }
 {
     let from = texts::known_field(t);
-    let a = from.used;
-    let u = &t[a..];
+    let u = &t[from.used..];
     let to = texts::known_field(u);
-    let b = to.used;
-    let w = &u[b..];
+    let w = &u[to.used..];
     let rate = texts::known_field(w);
-    Known {
-        value: rate_matrix::pack(from.value, to.value, rate.value),
-        used: a + b + rate.used,
-    }
+    (
+        rate_matrix::pack(from.value, to.value, rate.value),
+        from.used + to.used + rate.used,
+    )
 }
 
 // The moves of an accepted text, one word each.
+#[tactic(auto, using(crate::proofs::StoreLaw::store_laws))]
 pub fn store(s: &[u8], words: &mut [u64])
     requires { (csl.moves_layout s.now ≡ true) × (length (csl.moves_of s.now) ≤ length words.old) }
     ensures { Table
@@ -36,12 +34,12 @@ pub fn store(s: &[u8], words: &mut [u64])
         return;
     }
     let mut t = &s[end + 1..];
-    let mut j: usize = 0;
-    while 0 < t.len() {
-        let line = known_line(t);
-        let used = line.used;
-        words[j] = line.value;
-        j += 1;
+    for j in 0..words.len() {
+        if t.is_empty() {
+            return;
+        }
+        let (word, used) = known_line(t);
+        words[j] = word;
         t = &t[used..];
     }
 }

@@ -1,5 +1,5 @@
 -- All states' ends, row after row. Assumes nothing.
-use mathlib.Core.Path.{◌≡◌, refl, sym}
+use mathlib.Core.Path.{◌≡◌, refl, sym, ◌∙◌}
 use mathlib.Core.List.{List}
 use Prim.Native.Nat.{ℕ, ◌+◌, ◌*◌, ◌≤◌, ◌<◌}
 use native.Mathlib.Omega.{arith}
@@ -65,12 +65,12 @@ module _ {mv l₀ l operand : List ℕ} {n begin s : ℕ} (v : Inv mv l₀ l ope
     upper_is : r.upper ≡ upper_at mv l₀ operand n s
     upper_is = rw (e, kept (8 * n + s) (omega arith)) refl
 
-    pub turn : Inv mv l₀ (set (set l s r.lower) (n + s) r.upper) operand n (at l (7 * n + s)) (s + 1)
-    turn =
+    pub turn : (x y : ℕ) → x ≡ r.lower → y ≡ r.upper → Inv mv l₀ (set (set l s x) (n + s) y) operand n (at l (7 * n + s)) (s + 1)
+    turn x y f g =
         record {
           asked = v.asked;
           begins = rw add-one (rates.ends s h);
-          ends = storing.turn v.ends h r.lower r.upper lower_is upper_is;
+          ends = storing.turn v.ends h x y (f ∙ lower_is) (g ∙ upper_is);
         }
 
 pub finish : {mv l₀ l operand : List ℕ} {n begin s : ℕ} → Inv mv l₀ l operand n begin s → n ≤ s

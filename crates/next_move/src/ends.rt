@@ -10,6 +10,7 @@ use verdicts::Interval;
 
 // The interval of a state whose exit rate is this, of which `low` at least and `high` at most enters states where the operand holds: the one
 // fraction rounded down to billionths, the other up, and 0 where the exit rate is 0.
+#[tactic(auto, using(crate::proofs::IntervalLaw::interval_laws))]
 fn interval_of(low: u64, high: u64, exit: u64) -> Interval
     requires { (low ≤ exit) × (high ≤ exit) × (exit ≤ most_rate) }
     ensures { result ≡ interval (down_of low exit) (up_of high exit) }
@@ -18,11 +19,12 @@ fn interval_of(low: u64, high: u64, exit: u64) -> Interval
         return Interval::IMPOSSIBLE;
     }
     let lower = low * limits::BILLION / exit;
-    let upper = (high * limits::BILLION + (exit - 1)) / exit;
+    let upper = (high * limits::BILLION).div_ceil(exit);
     Interval::new(lower as u32, upper as u32)
 }
 
 // The interval of state s, whose row of move words is that from begin to end.
+// No struct is plainer: `next_move` alone calls this, and `begin` and `end` are new at each state.
 fn state(
     moves: &[u64],
     words: &[u64],
@@ -49,6 +51,7 @@ fn state(
 
 // The two ends of each state for the next move into states where the operand holds; the words are prepared, and the operand's verdict bytes
 // are one row.
+#[tactic(auto, using(crate::proofs::EndsLaw::ends_laws))]
 pub fn next_move(moves: &[u64], words: &mut [u64], operand: &[u8], n: usize)
     requires { NextAsked moves.now words.old operand.now n }
     ensures { EndsStored
@@ -57,13 +60,11 @@ pub fn next_move(moves: &[u64], words: &mut [u64], operand: &[u8], n: usize)
         n words.old words.new }
 {
     let mut begin: usize = 0;
-    let mut s: usize = 0;
-    while s < n {
+    for s in 0..n {
         let end = words[vectors::ENDS * n + s] as usize;
         let ends = state(moves, words, operand, n, s, begin, end);
-        words[s] = ends.lower as u64;
-        words[n + s] = ends.upper as u64;
+        words[s] = u64::from(ends.lower);
+        words[n + s] = u64::from(ends.upper);
         begin = end;
-        s += 1;
     }
 }

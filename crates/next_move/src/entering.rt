@@ -12,6 +12,7 @@ pub struct Entering {
 }
 
 // What of a rate enters states where the operand holds, by the verdict byte of the state that it enters.
+#[tactic(auto, using(crate::proofs::ShareLaw::share_laws))]
 pub fn share(rate: u64, byte: u8, as_yes: bool) -> u64
     ensures { result ≡ rate * bit (read_as as_yes (verdict_at byte)) }
 {
@@ -23,23 +24,18 @@ pub fn share(rate: u64, byte: u8, as_yes: bool) -> u64
 }
 
 // The words of one row: what of their rates enters states where the operand holds.
+#[tactic(auto, using(crate::proofs::RowLaw::row_laws))]
 pub fn row(moves: &[u64], operand: &[u8], n: usize, begin: usize, end: usize) -> Entering
     requires { RowAsked moves.now operand.now n begin end }
     ensures { Entered moves.now operand.now begin end result }
 {
     let mut low: u64 = 0;
     let mut high: u64 = 0;
-    let mut j = begin;
-    while j < end {
-        let word = moves[j];
+    for &word in &moves[begin..end] {
         let rate = rate_matrix::rate_of(word);
         let byte = operand[rate_matrix::to_of(word)];
         low += share(rate, byte, false);
         high += share(rate, byte, true);
-        j += 1;
     }
-    Entering {
-        low: low,
-        high: high,
-    }
+    Entering { low, high }
 }

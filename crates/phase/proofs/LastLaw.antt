@@ -4,8 +4,6 @@ use mathlib.Core.List.{List}
 use Prim.Native.Nat.{ℕ, zero, suc, ◌+◌, ◌*◌, ◌-◌, ◌/◌, ◌≤◌, ◌<◌}
 use native.Mathlib.Omega.{arith}
 use borrow.Author.Tests.{lt-ltb, le-ltb}
-use mir.Val.{Fits}
-use mir.Syntax.{w64}
 use Rattle.bounds.specs.Weight.{peak}
 use Rattle.bounds.specs.Last.{last_from}
 use Rattle.bounds.specs.Ends.{negligible}
@@ -13,16 +11,12 @@ use Rattle.vectors.specs.Places.{at, total_at, weight_at, total_in}
 use Rattle.phase.specs.Load.{LightAsked}
 
 -- `rest` of the weights after step k are dropped, and the answer is the same from there on
-pub record Inv (l : List ℕ) (n depth most rest k : ℕ) : Type 0 where
-  pub asked : LightAsked l n depth
-  pub within : k ≤ depth
-  pub most_is : most ≡ total_in l n / negligible
+pub record Dropped (l : List ℕ) (n depth most rest k : ℕ) : Type 0 where
   pub light : rest ≤ (depth - k) * peak
   pub same : last_from (weight_at l n) most k rest ≡ last_from (weight_at l n) most depth 0
 
-pub start : {l : List ℕ} {n depth : ℕ} (z : ℕ) → LightAsked l n depth → z ≡ total_at n → Inv l n depth (at l z / negligible) 0 depth
-start {l} z p e =
-    record { asked = p; within = omega arith; most_is = ap (λ (x : ℕ). at l x / negligible) e; light = omega arith; same = refl }
+pub start : (l : List ℕ) (n depth most : ℕ) → Dropped l n depth most 0 depth
+start l n depth most = record { light = omega arith; same = refl }
 
 -- the rule at a step after 0, as the code counts down
 last_down : (w : ℕ → ℕ) (most k rest : ℕ) → 0 < k → rest + w k ≤ most → last_from w most (k - 1) (rest + w k) ≡ last_from w most k rest
@@ -42,31 +36,25 @@ unfolding last_from
 last_none w most zero rest h = refl
 last_none w most (suc k) rest h = absurd (omega arith)
 
-module _ {l : List ℕ} {n depth most rest k : ℕ} (v : Inv l n depth most rest k) where
-  answer : k ≡ last_from (weight_at l n) most k rest → k ≡ last_from (weight_at l n) (total_in l n / negligible) depth 0
-  answer e = e ∙ v.same ∙ ap (λ (x : ℕ). last_from (weight_at l n) x depth 0) v.most_is
+module _ {l : List ℕ} {n depth rest k z : ℕ} (asked : LightAsked l n depth) (y : z ≡ total_at n) (v : Dropped l n depth (at l z / negligible) rest k) where
+  answer : (r : ℕ) → r ≡ last_from (weight_at l n) (at l z / negligible) k rest → r ≡ last_from (weight_at l n) (total_in l n / negligible) depth 0
+  answer r e = e ∙ v.same ∙ ap (λ (x : ℕ). last_from (weight_at l n) (at l x / negligible) depth 0) y
 
-  pub finish : k ≤ 0 → k ≡ last_from (weight_at l n) (total_in l n / negligible) depth 0
-  finish h = answer (last_none (weight_at l n) most k rest h)
+  pub finish : k ≤ 0 → 0 ≡ last_from (weight_at l n) (total_in l n / negligible) depth 0
+  finish h = let e : 0 ≡ k = omega arith in answer 0 (e ∙ last_none (weight_at l n) (at l z / negligible) k rest h)
 
-  module _ (h : 0 < k) where
+  module _ (h : 0 < k) (within : k ≤ depth) where
     weight_most : weight_at l n k ≤ peak
-    weight_most = v.asked.weights k v.within
+    weight_most = asked.weights k within
 
-    pub sum_fits : Fits w64 (rest + weight_at l n k)
-    sum_fits = omega (arith, v.light, weight_most, v.asked.limit, v.within)
+    pub found : at l z / negligible < rest + weight_at l n k → k ≡ last_from (weight_at l n) (total_in l n / negligible) depth 0
+    found e = answer k (last_here (weight_at l n) (at l z / negligible) k rest h e)
 
-    pub found : most < rest + weight_at l n k → k ≡ last_from (weight_at l n) (total_in l n / negligible) depth 0
-    found e = answer (last_here (weight_at l n) most k rest h e)
-
-    pub turn : rest + weight_at l n k ≤ most → Inv l n depth most (rest + weight_at l n k) (k - 1)
+    pub turn : rest + weight_at l n k ≤ at l z / negligible → Dropped l n depth (at l z / negligible) (rest + weight_at l n k) (k - 1)
     turn e =
         record {
-          asked = v.asked;
-          within = omega (arith, v.within);
-          most_is = v.most_is;
-          light = let y : depth - (k - 1) ≡ suc (depth - k) = omega (arith, v.within) in rw y (omega (arith, v.light, weight_most));
-          same = last_down (weight_at l n) most k rest h e ∙ v.same;
+          light = let s : depth - (k - 1) ≡ suc (depth - k) = omega arith in rw s (omega (arith, v.light, weight_most));
+          same = last_down (weight_at l n) (at l z / negligible) k rest h e ∙ v.same;
         }
 
-pub ruleset last_laws = (start, finish, sum_fits, found, turn)
+pub ruleset last_laws = (start, finish, found, turn)

@@ -4,7 +4,5 @@ pub mod StateLaw
 pub mod ValuesLaw
 pub mod AdvanceLaw
 pub mod StepsLaw
-pub mod WeighLaw
 pub mod LastLaw
 pub mod GatherLaw
-pub mod EndsLaw

@@ -4,27 +4,19 @@ ghost use Rattle.numbers.specs.Filled.{Filled};
 ghost use Rattle.vectors.specs.Places.{uppers_from};
 ghost use Rattle.phase.specs.Ends.{GatherAsked, whole_of, LowerAsked, lower_at, OverAsked, upper_from, UpperAsked, upper_at};
 
-// a less b, or 0 where b is greater.
-fn less(a: u64, b: u64) -> u64
-    ensures { result ≡ a - b }
-{
-    if a < b { 0 } else { a - b }
-}
-
 // What values of 0 would leave to be summed, one number for all states: each step's weight times 1 less what a value can lack there, which
 // is `error` at step 0 and a unit more at each later step; and less 1 for each step's rounding.
+#[tactic(auto, using(crate::proofs::GatherLaw::gather_laws))]
 fn gatherable(words: &[u64], n: usize, last: usize, error: u64) -> u64
     requires { GatherAsked words.now n last error }
     ensures { result ≡ whole_of words.now n last error }
 {
-    let mut g: u64 = 0;
-    let mut k: usize = 0;
-    while k <= last {
-        let most = less(bounds::ONE, error + (k as u64));
+    let mut g = 0;
+    for k in 0..=last {
+        let most = bounds::ONE.saturating_sub(error + k as u64);
         g = weights::added(g, words[vectors::WEIGHTS * n + k], most);
-        k += 1;
     }
-    less(g, (last as u64) + 1)
+    g.saturating_sub(last as u64 + 1)
 }
 
 // The lower end that each state's sum gives.
@@ -32,12 +24,9 @@ pub fn lower_ends(words: &mut [u64], n: usize)
     requires { LowerAsked words.old n }
     ensures { Filled (lower_at words.old n) 0 n words.old words.new }
 {
-    let at = vectors::total(n);
-    let total = words[at];
-    let mut s: usize = 0;
-    while s < n {
+    let total = words[vectors::total(n)];
+    for s in 0..n {
         words[s] = weights::over(words[vectors::SUMS * n + s], total);
-        s += 1;
     }
 }
 
@@ -46,7 +35,7 @@ fn upper_end(sum: u64, total: u64, whole: u64) -> u64
     requires { OverAsked total whole }
     ensures { result ≡ upper_from sum total whole }
 {
-    limits::BILLION - weights::over(less(whole, sum), total)
+    limits::BILLION - weights::over(whole.saturating_sub(sum), total)
 }
 
 // The upper end that each state's sum over steps 0 to last gives, where the start lacked at most `error` units.
@@ -55,11 +44,8 @@ pub fn upper_ends(words: &mut [u64], n: usize, last: usize, error: u64)
     ensures { Filled (upper_at words.old n last error) (uppers_from n) n words.old words.new }
 {
     let whole = gatherable(words, n, last, error);
-    let at = vectors::total(n);
-    let total = words[at];
-    let mut s: usize = 0;
-    while s < n {
+    let total = words[vectors::total(n)];
+    for s in 0..n {
         words[n + s] = upper_end(words[vectors::SUMS * n + s], total, whole);
-        s += 1;
     }
 }

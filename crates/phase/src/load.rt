@@ -12,7 +12,7 @@ pub fn depth_of(a: u64) -> usize
     requires { a ≤ most_load }
     ensures { result ≡ load_depth a }
 {
-    (2 * ((a + (RATE_HUNDREDTHS - 1)) / RATE_HUNDREDTHS) + SPARE_STEPS) as usize
+    (2 * a.div_ceil(RATE_HUNDREDTHS) + SPARE_STEPS) as usize
 }
 
 // The weights of steps 0 to depth for a load of a hundred-millionths, and their total, in their places.
@@ -22,8 +22,7 @@ pub fn weigh(words: &mut [u64], n: usize, a: u64, depth: usize)
 {
     let m = (a / RATE_HUNDREDTHS) as usize;
     let total = weights::weigh(words, vectors::WEIGHTS * n, m, depth, a, RATE_HUNDREDTHS);
-    let at = vectors::total(n);
-    words[at] = total;
+    words[vectors::total(n)] = total;
 }
 
 // The last step to be made: the weights of those after it, through the depth, are together next to nothing of the total.
@@ -31,16 +30,13 @@ pub fn last_step(words: &[u64], n: usize, depth: usize) -> usize
     requires { LightAsked words.now n depth }
     ensures { result ≡ last_from (weight_at words.now n) (total_in words.now n / negligible) depth 0 }
 {
-    let at = vectors::total(n);
-    let most = words[at] / bounds::NEGLIGIBLE;
-    let mut rest: u64 = 0;
-    let mut k = depth;
-    while 0 < k {
+    let most = words[vectors::total(n)] / bounds::NEGLIGIBLE;
+    let mut rest = 0;
+    for k in (1..=depth).rev() {
         rest += words[vectors::WEIGHTS * n + k];
         if most < rest {
             return k;
         }
-        k -= 1;
     }
-    k
+    0
 }

@@ -8,12 +8,10 @@ fn advance(words: &mut [u64], n: usize, w: u64)
     requires { AdvanceAsked words.old n w }
     ensures { Advanced n w words.old words.new }
 {
-    let mut i: usize = 0;
-    while i < n {
+    for i in 0..n {
         let x = words[vectors::NEXT * n + i];
         words[vectors::VALUES * n + i] = x;
         words[vectors::SUMS * n + i] = weights::added(words[vectors::SUMS * n + i], w, x);
-        i += 1;
     }
 }
 
@@ -26,8 +24,7 @@ pub fn begin(words: &mut [u64], n: usize)
     let w = words[vectors::WEIGHTS * n];
     zeros::clear_from(words, vectors::SUMS * n, n);
     advance(words, n, w);
-    let at = vectors::number(n);
-    words[at] = 0;
+    words[vectors::number(n)] = 0;
 }
 
 // One step of a phase: the values of all states one step on, each added to its sum with the step's weight, and the step number one higher.
@@ -37,7 +34,7 @@ pub fn step(moves: &[u64], words: &mut [u64], n: usize, q: u64)
 {
     let at = vectors::number(n);
     let k = words[at] + 1;
-    let w = words[vectors::WEIGHTS * n + (k as usize)];
+    let w = words[vectors::WEIGHTS * n + k as usize];
     values::move_values(moves, words, n, q);
     advance(words, n, w);
     words[at] = k;

@@ -1,10 +1,15 @@
 -- What the first m words of a list of packed moves say: exit rates, what flows into a state's sum, and
 -- where each state's row ends. Assumes nothing.
-use Rattle.std.specs.Prelude.{cond, List, ℕ, ◌*◌, ◌≤◌, ◌<◌, eqb, ltb}
+use Rattle.std.specs.Prelude.{◌≡◌, cond, List, ℕ, ◌+◌, ◌-◌, ◌*◌, ◌≤◌, ◌<◌, take, drop, eqb, ltb}
+use Rattle.std.proofs.Common.{◌∙◌, get_or-take, get_or-drop}
 use Rattle.rate_matrix.specs.Packed.{word_from, word_to, word_rate}
 use Rattle.csl.specs.Limits.{most_states, most_moves, most_rate}
 use Rattle.csl.specs.Chain.{sum_to, greatest}
 pub use Rattle.numbers.specs.Filled.{at}
+
+-- the word at a place of a part
+pub part_at : (mv : List ℕ) (begin end i : ℕ) → i < end - begin → at (take (end - begin) (drop begin mv)) i ≡ at mv (begin + i)
+part_at mv begin end i h = get_or-take (end - begin) (drop begin mv) i 0 h ∙ get_or-drop begin mv i 0
 
 -- the three numbers of word j
 abbrev pub from_of : List ℕ → ℕ → ℕ

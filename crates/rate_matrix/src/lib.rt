@@ -5,6 +5,7 @@
 
 mod own;
 mod rows;
+pub mod sorting;
 mod word;
 
 pub use own::{HALF, own_rate_of, row_end_of};

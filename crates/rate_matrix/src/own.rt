@@ -4,7 +4,7 @@ ghost use Rattle.std.specs.Prelude.{◌≡◌};
 ghost use Rattle.rate_matrix.specs.Halves.{own_rate, row_end};
 
 // So many numbers each half of a word can hold: 1 of the upper half.
-pub const HALF: u64 = 4294967296;
+pub const HALF: u64 = 1 << 32;
 
 // The rate from the state to itself.
 pub fn own_rate_of(word: u64) -> u64

@@ -1,45 +1,22 @@
--- The states that are yet to be reached, counted. Assumes nothing.
-use mathlib.Core.Path.{◌≡◌, sym}
-use mathlib.Core.List.{List}
-use Prim.Native.Nat.{ℕ, ◌+◌, ◌≤◌, ◌<◌}
-use native.Mathlib.Omega.{arith}
-use lib.ListN.{length}
-use mir.Val.{Fits}
-use mir.Syntax.{w64}
+-- The states that are yet to be reached, counted: their bytes are 1, and the others 0. Assumes nothing.
+use Rattle.std.specs.Prelude.{◌≡◌, refl, Bool, true, false, List, ℕ, zero, suc, ◌+◌, ◌≤◌, ◌<◌, ◌==◌, length, take, count_by}
+use Rattle.std.proofs.Common.{arith, add-one, eqb-true}
+use Rattle.std.proofs.lemmas.Bool.{eqb-false}
+use Rattle.std.proofs.lemmas.List.Sums.{count_by_more_yes, count_by_more_no}
 use Rattle.csl.specs.Chain.{sum_to}
-use Rattle.numbers.specs.Sum.{sum_zero, sum_next}
 use Rattle.numbers.specs.Filled.{at}
-use Rattle.reachability.specs.Asked.{CountAsked}
 
-pub record Inv (rows : List ℕ) (n count s : ℕ) : Type 0 where
-  pub asked : CountAsked rows n
-  pub within : s ≤ n
-  pub small : count ≤ s
-  pub is : count ≡ sum_to (at rows) s
-
-pub start : {rows : List ℕ} {n : ℕ} → CountAsked rows n → Inv rows n 0 0
-start {rows} a = record { asked = a; within = omega arith; small = omega arith; is = sym (sum_zero (at rows)) }
-
-module _ {rows : List ℕ} {n count s : ℕ} (v : Inv rows n count s) (h : s < n) where
-  pub in_rows : s < length rows
-  in_rows = omega (arith, v.asked.held)
-
-  pub byte_fits : Fits w64 (at rows s)
-  byte_fits = omega (arith, v.asked.bits s h)
-
-  pub count_fits : Fits w64 (count + at rows s)
-  count_fits = omega (arith, v.asked.bits s h, v.small, v.asked.states)
-
-  pub turn : Inv rows n (count + at rows s) (s + 1)
-  turn =
-      record {
-        asked = v.asked;
-        within = omega arith;
-        small = omega (arith, v.asked.bits s h, v.small);
-        is = omega (arith, v.is, sum_next (at rows) s);
-      }
-
-pub finish : {rows : List ℕ} {n count s : ℕ} → Inv rows n count s → n ≤ s → count ≡ sum_to (at rows) n
-finish {n = n} {s = s} v h = let e : s ≡ n = omega (arith, v.within) in rw e at v.is
-
-pub ruleset count_laws = (start, in_rows, byte_fits, count_fits, turn, finish)
+pub ones_summed : (rows : List ℕ) (n : ℕ) → n ≤ length rows → ((s : ℕ) → s < n → at rows s ≤ 1) → count_by (λ x. x == 1) (take n rows) ≡ sum_to (at rows) n
+unfolding sum_to
+ones_summed rows zero h b = refl
+ones_summed rows (suc n) h b = go (at rows n == 1) refl (ones_summed rows n (omega arith) (λ s l. b s (omega arith)))
+  where
+    go : (t : Bool) → (at rows n == 1) ≡ t → count_by (λ x. x == 1) (take n rows) ≡ sum_to (at rows) n
+        → count_by (λ x. x == 1) (take (suc n) rows) ≡ sum_to (at rows) n + at rows n
+    go true e r =
+        let more = count_by_more_yes (λ x. x == 1) rows n 0 (omega arith) e in
+        omega (arith, rw add-one at more, r, eqb-true (at rows n) 1 e)
+    go false e r =
+        let more = count_by_more_no (λ x. x == 1) rows n 0 (omega arith) e in
+        let none : at rows n ≡ 1 → ⊥ = eqb-false (at rows n) 1 e in
+        omega (arith, rw add-one at more, r, b n (omega arith))

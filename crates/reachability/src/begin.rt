@@ -5,6 +5,8 @@ ghost use Rattle.numbers.specs.Filled.{at};
 ghost use Rattle.reachability.specs.Asked.{ReachAsked, rows_reached, words_reached, tail_reached, SeedAsked, SeedLeaves, CountAsked};
 
 // State s, if it is found, is reached, and is queued at `tail`. The queue then ends at what is returned.
+// The words and rows stay apart: of a struct of `&mut` slices a clause could say what is left only as `exit.0`, `exit.1.0` and so on.
+#[tactic(auto, using(crate::proofs::ReachLaw::reach_laws))]
 fn reach(found: bool, words: &mut [u64], rows: &mut [u8], n: usize, s: usize, tail: usize) -> usize
     requires { ReachAsked found words.old rows.old n s tail }
     ensures value { result ≡ tail_reached found tail }
@@ -21,16 +23,15 @@ fn reach(found: bool, words: &mut [u64], rows: &mut [u8], n: usize, s: usize, ta
 }
 
 // The states of the second operand, reached and queued. The queue then ends at what is returned.
+#[tactic(auto, using(crate::proofs::SeedLaw::seed_laws))]
 pub fn seed(words: &mut [u64], rows: &mut [u8], n: usize) -> usize
     requires { SeedAsked words.old rows.old n }
     ensures { SeedLeaves n words.old rows.old words.new rows.new result }
 {
     let mut tail: usize = 0;
-    let mut s: usize = 0;
-    while s < n {
+    for s in 0..n {
         let found = rows[n + s] == 1;
         tail = reach(found, words, rows, n, s, tail);
-        s += 1;
     }
     tail
 }
@@ -40,11 +41,5 @@ pub fn open_states(rows: &[u8], n: usize) -> usize
     requires { CountAsked rows.now n }
     ensures { result ≡ sum_to (at rows.now) n }
 {
-    let mut count: usize = 0;
-    let mut s: usize = 0;
-    while s < n {
-        count += rows[s] as usize;
-        s += 1;
-    }
-    count
+    rows[..n].iter().filter(|byte| **byte == 1).count()
 }

@@ -6,6 +6,7 @@ ghost use Rattle.reachability.specs.Asked.{TakeAsked, rows_taken, EnterAsked, En
 
 // Reaches state s, and queues it at `tail`, if its first byte is 1; else the place in the queue stays free. It does either without a branch, which
 // would often be foretold wrongly. The queue then ends at what is returned.
+#[tactic(auto, using(crate::proofs::TakeLaw::take_laws))]
 fn take(words: &mut [u64], rows: &mut [u8], n: usize, s: usize, tail: usize) -> usize
     requires { TakeAsked words.old rows.old n s tail }
     ensures value { result ≡ tail + at rows.old s }
@@ -17,11 +18,13 @@ fn take(words: &mut [u64], rows: &mut [u8], n: usize, s: usize, tail: usize) -> 
     words[vectors::VALUES * n + tail] = s as u64;
     rows[s] = 0;
     rows[n + s] = first + second;
-    tail + first as usize
+    tail + usize::from(first)
 }
 
 // Reaches the states that move to one that is reached, by the words of its row of the index, from begin to end: those of the first operand that
 // are not reached yet. With `most` states in the queue there are none.
+// The words and rows stay apart: of a struct of `&mut` slices a clause could say what is left only as `exit.0`, `exit.1.0` and so on.
+#[tactic(auto, using(crate::proofs::EnterLaw::enter_laws))]
 fn enter(
     index: &[u64],
     words: &mut [u64],
@@ -37,19 +40,18 @@ fn enter(
         words.new rows.new result }
 {
     let mut tail = queued;
-    let mut k = begin;
-    while k < end {
+    for &word in &index[begin..end] {
         if tail == most {
             return tail;
         }
-        let s = rate_matrix::to_of(index[k]);
+        let s = rate_matrix::to_of(word);
         tail = take(words, rows, n, s, tail);
-        k += 1;
     }
     tail
 }
 
 // Where the row of the moves that enter t begins in the index.
+#[tactic(auto, using(crate::proofs::RowLaw::row_laws))]
 fn row_begin(words: &[u64], n: usize, t: usize) -> usize
     requires { RowAsked words.now n t }
     ensures { result ≡ row_begin words.now n t }
@@ -61,6 +63,7 @@ fn row_begin(words: &[u64], n: usize, t: usize) -> usize
 }
 
 // Takes one queued state after the other, and reaches those that move to it. `most` states are queued or yet to be reached.
+// The words and rows stay apart: of a struct of `&mut` slices a clause could say what is left only as `exit.0`, `exit.1.0` and so on.
 pub fn spread(
     index: &[u64],
     words: &mut [u64],
@@ -74,6 +77,7 @@ pub fn spread(
 {
     let mut tail = queued;
     let mut head: usize = 0;
+    // A `while`: the queue grows while it is gone through, so that no range has its end.
     while head < tail {
         if tail == most {
             return;

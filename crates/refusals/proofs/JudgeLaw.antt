@@ -1,144 +1,126 @@
--- Tests 2 to 9, in their order, by the facts of the two texts. Assumes nothing.
+-- Tests 3 to 9, in their order, by the facts of two texts whose layouts are right. Assumes nothing.
 use mathlib.Core.Path.{◌≡◌, refl, sym, ap, ◌∙◌}
-use Prim.Native.Nat.{◌≤◌, ◌<◌}
-use mathlib.Core.Bool.{Bool, true, false, cond, not, ◌&&◌, ◌||◌, not-not, and-eq-true_iff}
-use mathlib.Core.Option.{none, some}
-use lib.ListN.{length}
+use Prim.Native.Nat.{ℕ, ◌≤◌, ◌<◌}
+use mathlib.Core.Bool.{Bool, true, false, cond, not, ◌&&◌, ◌||◌}
+use Rattle.std.specs.Prelude.{Option, None, Some, Result, ok_or}
+use Rattle.verdicts.specs.Refusal.{refusal_in}
+use Rattle.verdicts.specs.declared.refusal.Refusal.{Refusal}
+use Rattle.verdicts.specs.declared.refusal.Refusal.TheVariants.{WrongRate}
 use lib.Dec.{ltb, eqb}
-use borrow.Author.Tests.{lt-ltb, le-ltb, not-false}
+use borrow.Author.Tests.{lt-ltb, le-ltb}
 use Rattle.csl.specs.Text.{Text}
 use Rattle.csl.specs.Limits.{most_states, most_moves}
-use Rattle.csl.specs.Line.{line_feed, later_lines}
-use Rattle.csl.specs.Labels.{labels_head, labels_layout, in_turn, states_of, names_of}
-use Rattle.csl.specs.Moves.{moves_head, moves_layout, moves_of}
-use Rattle.csl.specs.Refusal.{broken_layout, wrong_first_line, wrong_states, many_moves, strange_state, wrong_rate, sheet_tests, first_of}
+use Rattle.csl.specs.Labels.{labels_layout, states_of}
+use Rattle.csl.specs.Moves.{moves_head, moves_layout, moves_of, rates_out}
+use Rattle.csl.specs.Chain.{greatest}
+use Rattle.accepted.specs.Rates.{others}
+use Rattle.csl.specs.Refusal.{wrong_first_line, wrong_states, many_moves, strange_state, wrong_rate, three_to_nine, first_of}
 use Rattle.accepted.specs.Order.{neither}
-use Rattle.texts.specs.Span.{span_of}
 use Rattle.moves.specs.Facts as m
 use Rattle.moves.specs.declared.facts.MovesFacts.{MovesFacts}
 use Rattle.labels.specs.Facts as l
 use Rattle.labels.specs.declared.facts.LabelsFacts.{LabelsFacts}
-use Rattle.refusals.specs.Sheet.{Facts, after_lengths}
-use Rattle.refusals.specs.Tested.{tested_by}
-use Rattle.refusals.specs.declared.tested.Tested.{Tested}
-use Rattle.refusals.specs.declared.tested.Tested.TheVariants.{Passed, Refused}
+use Rattle.refusals.specs.Sheet.{Facts}
 
--- the facts of texts whose layouts are right
-abbrev pub right_labels : Text → LabelsFacts
-right_labels labels =
-    record {
-      layout = true;
-      head = labels_head labels;
-      states = states_of labels;
-      turn = in_turn 0 (later_lines labels);
-      names = length (names_of labels);
-      first = span_of line_feed labels;
-    }
+-- what facts that were read say of their text
+pub labels_right : (labels : Text) {b : LabelsFacts} → l.labels_facts labels ≡ Some b → (labels_layout labels ≡ true) × (b ≡ l.facts_in labels)
+unfolding l.labels_facts
+labels_right labels {b} = go (labels_layout labels)
+  where
+    go : (x : Bool) → cond x (Some (l.facts_in labels)) None ≡ Some b → (x ≡ true) × (b ≡ l.facts_in labels)
+    go true e = (refl, cc)
+    go false e = absurd cc
+
+pub moves_right : (n : ℕ) (moves : Text) {a : MovesFacts} → m.moves_facts n moves ≡ Some a
+    → (moves_layout moves ≡ true) × (a ≡ m.facts_in n (moves_head moves) (moves_of moves))
+unfolding m.moves_facts
+moves_right n moves {a} = go (moves_layout moves)
+  where
+    go : (x : Bool) → cond x (Some (m.facts_in n (moves_head moves) (moves_of moves))) None ≡ Some a
+        → (x ≡ true) × (a ≡ m.facts_in n (moves_head moves) (moves_of moves))
+    go true e = (refl, cc)
+    go false e = absurd cc
 
 module _ {moves labels : Text} {a : MovesFacts} {b : LabelsFacts} (k : Facts moves labels a b) where
-  labels_layout_lem : b.layout ≡ labels_layout labels
-  unfolding l.labels_facts
-  labels_layout_lem = ap (λ (x : LabelsFacts). x.layout) k.of_labels ∙ go (labels_layout labels)
-    where
-      go : (x : Bool) → (cond {A = LabelsFacts} x (right_labels labels) l.broken).layout ≡ x
-      go true = refl
-      go false = refl
+  labels_are : b ≡ l.facts_in labels
+  labels_are = (labels_right labels k.of_labels).1
 
-  moves_layout_lem : a.layout ≡ moves_layout moves
-  unfolding m.moves_facts
-  moves_layout_lem = ap (λ (x : MovesFacts). x.layout) k.of_moves ∙ go (moves_layout moves)
-    where
-      go : (x : Bool) → (cond {A = MovesFacts} x (m.facts_in b.states (moves_head moves) (moves_of moves)) m.broken).layout ≡ x
-      go true = refl
-      go false = refl
+  moves_are : a ≡ m.facts_in (states_of labels) (moves_head moves) (moves_of moves)
+  moves_are = (moves_right b.states moves k.of_moves).1 ∙ ap (λ (x : LabelsFacts). m.facts_in x.states (moves_head moves) (moves_of moves)) labels_are
 
-  -- 2
-  layouts_told : not (a.layout && b.layout) ≡ broken_layout moves labels
-  unfolding broken_layout
-  layouts_told = rw (moves_layout_lem, labels_layout_lem)
+  -- 3 to 6, and 9 where 4 and 6 do not hold
+  first_lines_told : not (a.head && b.head) ≡ wrong_first_line moves labels
+  unfolding wrong_first_line
+  first_lines_told = rw (moves_are, labels_are)
 
-  module _ (h : not (a.layout && b.layout) ≡ false) where
-    both_right : (moves_layout moves ≡ true) × (labels_layout labels ≡ true)
-    unfolding broken_layout
-    both_right = (and-eq-true_iff (moves_layout moves) (labels_layout labels)).0 (not-false _ (sym layouts_told ∙ h))
+  states_told : (eqb b.states 0 || ltb most_states b.states || not b.turn) ≡ wrong_states labels
+  unfolding wrong_states
+  states_told = rw labels_are
 
-    pub labels_right : b ≡ right_labels labels
-    unfolding l.labels_facts
-    labels_right = k.of_labels ∙ rw both_right.1
+  count_told : ltb most_moves a.count ≡ many_moves (moves_of moves)
+  unfolding many_moves
+  count_told = rw moves_are
 
-    pub moves_right : a ≡ m.facts_in (states_of labels) (moves_head moves) (moves_of moves)
-    unfolding m.moves_facts
-    moves_right = k.of_moves ∙ rw (both_right.0, labels_right)
+  strange_told : a.strange ≡ strange_state (states_of labels) (moves_of moves)
+  strange_told = rw moves_are
 
-    -- 3 to 6, and 9 where 4 and 6 do not hold
-    first_lines_told : not (a.head && b.head) ≡ wrong_first_line moves labels
-    unfolding wrong_first_line
-    first_lines_told = rw (moves_right, labels_right)
+  rates_told : (eqb b.states 0 || ltb most_states b.states || not b.turn) ≡ false → a.strange ≡ false
+      → a.top ≡ cond (not (wrong_rate (moves_of moves))) (Some (greatest (rates_out (others (moves_of moves))) (states_of labels))) None
+  rates_told h4 h6 =
+      let few : ltb most_states (states_of labels) ≡ false
+      = rw labels_are at (neither (eqb b.states 0) _ (neither _ (not b.turn) h4).0).1 in
+      rw moves_are (rw (few, sym strange_told ∙ h6) refl)
 
-    states_told : (eqb b.states 0 || ltb most_states b.states || not b.turn) ≡ wrong_states labels
-    unfolding wrong_states
-    states_told = rw labels_right
+top_none : (w : Bool) (g : ℕ) {o : Option ℕ} → o ≡ cond (not w) (Some g) None → o ≡ None → w ≡ true
+top_none true g e h = refl
+top_none false g e h = absurd cc
 
-    count_told : ltb most_moves a.count ≡ many_moves (moves_of moves)
-    unfolding many_moves
-    count_told = rw moves_right
-
-    strange_told : a.strange ≡ strange_state (states_of labels) (moves_of moves)
-    strange_told = rw moves_right
-
-    rates_told : (eqb b.states 0 || ltb most_states b.states || not b.turn) ≡ false → a.strange ≡ false
-        → not a.rates ≡ wrong_rate (moves_of moves)
-    rates_told h4 h6 =
-        let few : ltb most_states (states_of labels) ≡ false
-        = rw labels_right at (neither (eqb b.states 0) _ (neither _ (not b.turn) h4).0).1 in
-        rw moves_right (rw (few, sym strange_told ∙ h6) (not-not (wrong_rate (moves_of moves))))
+top_some : (w : Bool) (g : ℕ) {q : ℕ} {o : Option ℕ} → o ≡ cond (not w) (Some g) None → o ≡ Some q → w ≡ false
+top_some true g e h = absurd cc
+top_some false g e h = refl
 
 -- each answer, by the conditions before it
 module _ (a : MovesFacts) (b : LabelsFacts) where
-  abbrev Answered : Tested → Type 0
-  Answered r = (moves labels : Text) → Facts moves labels a b → r ≡ tested_by (after_lengths moves labels)
+  abbrev Answered : Option ℕ → Type 0
+  Answered r = (moves labels : Text) → Facts moves labels a b → r ≡ first_of (three_to_nine moves labels)
 
-  pub at_2 : not (a.layout && b.layout) ≡ true → Answered (Refused 2)
-  unfolding sheet_tests first_of
-  at_2 h moves labels k = rw (sym (layouts_told k) ∙ h)
+  pub at_3 : not (a.head && b.head) ≡ true → Answered (Some 3)
+  unfolding first_of
+  at_3 h moves labels k = rw (sym (first_lines_told k) ∙ h)
 
-  module _ (h2 : not (a.layout && b.layout) ≡ false) where
-    pub at_3 : not (a.head && b.head) ≡ true → Answered (Refused 3)
-    unfolding sheet_tests first_of
-    at_3 h moves labels k = rw (sym (layouts_told k) ∙ h2, sym (first_lines_told k h2) ∙ h)
+  module _ (h3 : not (a.head && b.head) ≡ false) where
+    pub at_4 : (eqb b.states 0 || ltb most_states b.states || not b.turn) ≡ true → Answered (Some 4)
+    unfolding first_of
+    at_4 h moves labels k = rw (sym (first_lines_told k) ∙ h3, sym (states_told k) ∙ h)
 
-    module _ (h3 : not (a.head && b.head) ≡ false) where
-      pub at_4 : (eqb b.states 0 || ltb most_states b.states || not b.turn) ≡ true → Answered (Refused 4)
-      unfolding sheet_tests first_of
-      at_4 h moves labels k = rw (sym (layouts_told k) ∙ h2, sym (first_lines_told k h2) ∙ h3, sym (states_told k h2) ∙ h)
+    module _ (h4 : (eqb b.states 0 || ltb most_states b.states || not b.turn) ≡ false) where
+      -- 5 and on
+      first_from5 : (moves labels : Text) → Facts moves labels a b
+          → first_of (three_to_nine moves labels)
+          ≡ cond (ltb most_moves a.count) (Some 5) (cond a.strange (Some 6) (cond (wrong_rate (moves_of moves)) (Some 9) None))
+      unfolding first_of
+      first_from5 moves labels k =
+          rw (sym (first_lines_told k) ∙ h3, sym (states_told k) ∙ h4, sym (count_told k), sym (strange_told k))
 
-      module _ (h4 : (eqb b.states 0 || ltb most_states b.states || not b.turn) ≡ false) where
-        -- 5 and on
-        pub first_from5 : (moves labels : Text) → Facts moves labels a b
-            → after_lengths moves labels
-            ≡ cond (ltb most_moves a.count) (some 5) (cond a.strange (some 6) (cond (wrong_rate (moves_of moves)) (some 9) none))
-        unfolding sheet_tests first_of
-        first_from5 moves labels k =
-            rw (
-              sym (layouts_told k) ∙ h2,
-              sym (first_lines_told k h2) ∙ h3,
-              sym (states_told k h2) ∙ h4,
-              sym (count_told k h2),
-              sym (strange_told k h2),
-            )
+      pub at_5 : most_moves < a.count → Answered (Some 5)
+      at_5 h moves labels k = rw (first_from5 moves labels k, lt-ltb most_moves a.count h)
 
-        pub at_5 : most_moves < a.count → Answered (Refused 5)
-        at_5 h moves labels k = rw (first_from5 moves labels k, lt-ltb most_moves a.count h)
+      module _ (h5 : a.count ≤ most_moves) where
+        pub at_6 : a.strange ≡ true → Answered (Some 6)
+        at_6 h moves labels k = rw (first_from5 moves labels k, le-ltb most_moves a.count h5, h)
 
-        module _ (h5 : a.count ≤ most_moves) where
-          pub at_6 : a.strange ≡ true → Answered (Refused 6)
-          at_6 h moves labels k = rw (first_from5 moves labels k, le-ltb most_moves a.count h5, h)
+        module _ (h6 : a.strange ≡ false) where
+          at_9 : a.top ≡ None → Answered (Some 9)
+          at_9 h moves labels k =
+              rw (first_from5 moves labels k, le-ltb most_moves a.count h5, h6, top_none _ _ (rates_told k h4 h6) h)
 
-          module _ (h6 : a.strange ≡ false) where
-            pub at_9 : not a.rates ≡ true → Answered (Refused 9)
-            at_9 h moves labels k =
-                rw (first_from5 moves labels k, le-ltb most_moves a.count h5, h6, sym (rates_told k h2 h4 h6) ∙ h)
+          at_end : {q : ℕ} → a.top ≡ Some q → Answered None
+          at_end h moves labels k =
+              rw (first_from5 moves labels k, le-ltb most_moves a.count h5, h6, top_some _ _ (rates_told k h4 h6) h)
 
-            pub at_end : not a.rates ≡ false → Answered Passed
-            at_end h moves labels k =
-                rw (first_from5 moves labels k, le-ltb most_moves a.count h5, h6, sym (rates_told k h2 h4 h6) ∙ h)
+          pub at_top : {r : Result ℕ Refusal} → r ≡ ok_or a.top WrongRate → Answered (refusal_in r)
+          at_top {r} e moves labels k = go a.top refl
+            where
+              go : (o : Option ℕ) → a.top ≡ o → refusal_in r ≡ first_of (three_to_nine moves labels)
+              go None h = rw (e, h) (at_9 h moves labels k)
+              go (Some q) h = rw (e, h) (at_end h moves labels k)

@@ -1,4 +1,3 @@
 -- What the tests answer.
-pub mod Tested
 pub mod Sheet
 pub mod Lengths

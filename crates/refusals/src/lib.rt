@@ -5,9 +5,7 @@
 mod formula_tests;
 mod lengths;
 mod sheet_tests;
-mod tested;
 
-pub use formula_tests::{TestedFormula, test_formula};
+pub use formula_tests::test_formula;
 pub use lengths::{Lengths, too_short};
-pub use sheet_tests::{Dimensions, TestedSheet, out_of_bytes, test_sheet};
-pub use tested::Tested;
+pub use sheet_tests::{Dimensions, out_of_bytes, test_sheet};

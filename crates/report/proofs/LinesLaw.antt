@@ -1,20 +1,16 @@
 -- The lines of a listing's states, one behind the other. Assumes nothing.
-use mathlib.Core.Path.{◌≡◌, refl, ap}
-use mathlib.Core.List.{List, [], ◌∷◌, ◌++◌, append_assoc, append-nil}
-use Prim.Native.Nat.{ℕ, ◌+◌, ◌-◌, ◌≤◌, ◌<◌}
-use native.Mathlib.Omega.{arith}
-use native.Mathlib.Numerals.{add-one}
-use native.Mathlib.Nat.{le_refl}
-use lib.ListN.{length, length-append}
-use lib.Seq.{take-suc}
+use Rattle.std.specs.Prelude.{◌≡◌, refl, List, [], ◌∷◌, ◌++◌, ℕ, ◌+◌, ◌-◌, ◌≤◌, ◌<◌, length}
+use Rattle.std.proofs.Common.{ap, arith, add-one, append_assoc, append-nil, length-append, take-suc}
 use Rattle.csl.specs.Text.{Text, bytes}
 use Rattle.csl.specs.Verdicts.{Verdict}
 use Rattle.csl.specs.Order.{by_number}
 use Rattle.csl.specs.Report.{row_text, rows_text, listing_text}
 use Rattle.report.specs.declared.listings.Listing.{Listing}
 use Rattle.report.specs.declared.listings.Listing.TheVariants.{ByNumber, WorstFirst}
+use Rattle.report.specs.declared.rows.Rows.{Rows}
 use Rattle.decimals.specs.Place.{Room, Wrote}
 use Rattle.report.specs.Listing.{entry, verdict_in, listed, state_at, rows, listing}
+use Rattle.report.specs.Shown.{line_at, rows_of, listing_of}
 use Rattle.decimals.specs.Writing.{wrote_none, wrote_more}
 use Rattle.decimals.specs.Growing.{length_next, length_among, part_room, part_wrote}
 
@@ -36,78 +32,67 @@ unfolding by_number
 listed_next ByNumber i o h = rw (add-one i) refl
 listed_next WorstFirst i o h = rw (add-one i) (take-suc o i 0 h)
 
-module _ (w : Listing) (d : ℕ) (l u b o : List ℕ) where
-  -- the line of state s, where v is its verdict; the lines of the first i states of the listing, and the line of the one at place i
-  abbrev line : ℕ → Verdict → Text
-  line s v = row_text s (entry l s) (entry u s) d v
-
-  abbrev first : ℕ → Text
-  first i = rows w i d l u b o
-
-  abbrev behind : ℕ → Text
-  behind i = line (state_at w i o) (verdict_in b (state_at w i o))
-
-  line_is : (i s : ℕ) (v : Verdict) → s ≡ state_at w i o → v ≡ verdict_in b s → line s v ≡ behind i
-  line_is i s v e q = rw (q, e) refl
+module _ (w : Listing) (r : Rows) where
+  -- the lines before a place of the listing
+  abbrev pub before : ℕ → Text
+  before i = rows w i r.depth r.lower.now r.upper.now r.verdicts.now r.order.now
 
   -- the lines of no state, and of one more
-  rows_none : first 0 ≡ []
+  rows_none : before 0 ≡ []
   unfolding rows rows_text
-  rows_none = rw (listed_none w o) refl
+  rows_none = rw (listed_none w r.order.now) refl
 
-  rows_next : (n : ℕ) → n ≤ length o → (i : ℕ) → i < n → first (i + 1) ≡ first i ++ behind i
+  rows_next : (i : ℕ) → i < r.states → before (i + 1) ≡ before i ++ line_at w i r
   unfolding rows
-  rows_next n k i h = rw (listed_next w i o (omega arith)) (rows_snoc (listed w i o) (state_at w i o) (entry l) (entry u) d (verdict_in b))
+  rows_next i h =
+      rw (listed_next w i r.order.now (omega (arith, r.complete.places)))
+      (rows_snoc (listed w i r.order.now) (state_at w i r.order.now) (entry r.lower.now) (entry r.upper.now) r.depth (verdict_in r.verdicts.now))
 
   -- with the line of names
-  pub listing_length : (n : ℕ) → length (listing w n d l u b o) ≡ 32 + length (rows w n d l u b o)
+  pub listing_length : length (listing_of w r) ≡ 32 + length (rows_of w r)
   unfolding listing listing_text rows
-  listing_length n = length-append (bytes "state,lower,upper,depth,verdict\n") (rows w n d l u b o)
+  listing_length = length-append (bytes "state,lower,upper,depth,verdict\n") (rows_of w r)
 
-  -- how much room is left behind the names: all of it, after a line, and the answers
-  pub fit_none : (room : ℕ) → room + length (rows w 0 d l u b o) ≡ room
-  fit_none room = omega (arith, ap length rows_none)
+  -- how much room is left behind the names: all of it, and what a line leaves
+  pub fit_none : (room : ℕ) → 32 ≤ room → room - 32 + length (before 0) + 32 ≡ room
+  fit_none room h = omega (arith, ap length rows_none)
 
-  pub fit_more : (i s : ℕ) (v : Verdict) {left room k : ℕ} → i < length o → s ≡ state_at w i o → v ≡ verdict_in b s → k ≡ length (line s v)
-      → left + length (first i) ≡ room → k ≤ left → left - k + length (first (i + 1)) ≡ room
-  fit_more i s v h e q p r j = omega (arith, length_next first behind (length o) (rows_next _ (le_refl _)) i h, ap length (line_is i s v e q))
+  pub fit_more : (i : ℕ) {left room k : ℕ} → i < r.states → k ≡ length (line_at w i r) → left + length (before i) + 32 ≡ room → k ≤ left
+      → left - k + length (before (i + 1)) + 32 ≡ room
+  fit_more i h e p q = omega (arith, length_next before (λ k. line_at w k r) r.states rows_next i h)
 
-  pub fit_no : (i n s : ℕ) (v : Verdict) {left room k : ℕ} → i < n → n ≤ length o → s ≡ state_at w i o → v ≡ verdict_in b s → k ≡ length (line s v)
-      → left + length (first i) ≡ room - 32 → left < k → 32 ≤ room → room < length (listing w n d l u b o)
-  fit_no i n s v h k e q p r j x = omega (arith, length_among first behind n (rows_next n k) i h, ap length (line_is i s v e q), listing_length n)
+  -- a line that is longer than what is left
+  pub fit_no : (i k : ℕ) {left room : ℕ} → i < r.states → k ≡ length (line_at w i r) → left + length (before i) + 32 ≡ room → left < k
+      → room < length (listing_of w r)
+  fit_no i k h e p q = omega (arith, length_among before (λ k. line_at w k r) r.states rows_next i h, listing_length)
 
-  pub fit_yes : (i n left room : ℕ) → left + length (rows w i d l u b o) ≡ room - 32 → i ≤ n → n ≤ i → 32 ≤ room
-      → left + length (listing w n d l u b o) ≡ room
-  fit_yes i n left room p h k x = let e : i ≡ n = omega arith in omega (arith, listing_length n, ap (λ (m : ℕ). length (rows w m d l u b o)) e)
+  -- no line is left
+  pub fit_all : (i left : ℕ) {room : ℕ} → i ≤ r.states → r.states ≤ i → left + length (before i) + 32 ≡ room → left + length (listing_of w r) ≡ room
+  fit_all i left h k p = let e : i ≡ r.states = omega arith in omega (arith, listing_length, ap (λ (n : ℕ). length (before n)) e)
 
-  -- the lines written: none, room for the next, one more, all
-  pub lines_none : (at : ℕ) (old : List ℕ) → Wrote at (rows w 0 d l u b o) old old at
+  -- the lines written: none, room for the next, one more
+  pub lines_none : (at : ℕ) (old : List ℕ) → Wrote at (before 0) old old at
   lines_none at old = rw rows_none (wrote_none at old)
 
-  pub lines_room : (i n s : ℕ) (v : Verdict) {at m : ℕ} {old mid : List ℕ} → i < n → n ≤ length o → s ≡ state_at w i o → v ≡ verdict_in b s
-      → Room at (first n) old → Wrote at (first i) old mid m → length mid ≡ length old → Room m (line s v) mid
-  lines_room i n s v h k e q room x p = rw (line_is i s v e q) (part_room first behind n (rows_next n k) i h room x p)
+  pub lines_room : (i : ℕ) {at m : ℕ} {old mid : List ℕ} → i < r.states → Room at (rows_of w r) old → Wrote at (before i) old mid m
+      → length mid ≡ length old → Room m (line_at w i r) mid
+  lines_room i h room x p = part_room before (λ k. line_at w k r) r.states rows_next i h room x p
 
-  pub lines_more : (i n s : ℕ) (v : Verdict) {at m r : ℕ} {old mid new : List ℕ} → i < n → n ≤ length o → s ≡ state_at w i o → v ≡ verdict_in b s
-      → Room at (first n) old → Wrote at (first i) old mid m → Wrote m (line s v) mid new r → Wrote at (first (i + 1)) old new r
-  lines_more i n s v h k e q room x y =
-      part_wrote first behind n (rows_next n k) i h room x (rw (line_is i s v e q) at y)
-
-  pub lines_all : (i n : ℕ) {at r : ℕ} {old new : List ℕ} → i ≤ n → n ≤ i → Wrote at (rows w i d l u b o) old new r
-      → Wrote at (rows w n d l u b o) old new r
-  lines_all i n h k x = let e : i ≡ n = omega arith in rw e at x
+  pub lines_more : (i : ℕ) {at m n : ℕ} {old mid new : List ℕ} → i < r.states → Room at (rows_of w r) old → Wrote at (before i) old mid m
+      → Wrote m (line_at w i r) mid new n → Wrote at (before (i + 1)) old new n
+  lines_more i h room x y = part_wrote before (λ k. line_at w k r) r.states rows_next i h room x y
 
   -- a listing written: room for the names, for the lines behind them, and both
-  module _ (n at : ℕ) (old : List ℕ) (room : Room at (listing w n d l u b o) old) where
+  module _ (at : ℕ) (old : List ℕ) (room : Room at (listing_of w r) old) where
     pub names_room : Room at (bytes "state,lower,upper,depth,verdict\n") old
-    names_room = omega (arith, listing_length n)
+    names_room = omega (arith, listing_length)
 
     pub rows_room : {a : ℕ} {mid : List ℕ} → Wrote at (bytes "state,lower,upper,depth,verdict\n") old mid a → length mid ≡ length old
-        → Room a (rows w n d l u b o) mid
-    rows_room x q = omega (arith, listing_length n)
+        → Room a (rows_of w r) mid
+    rows_room x q = omega (arith, listing_length)
 
-    pub listing_wrote : {a r : ℕ} {mid new : List ℕ} → Wrote at (bytes "state,lower,upper,depth,verdict\n") old mid a
-        → Wrote a (rows w n d l u b o) mid new r → Wrote at (listing w n d l u b o) old new r
+    pub listing_wrote : {a n : ℕ} {mid new : List ℕ} → Wrote at (bytes "state,lower,upper,depth,verdict\n") old mid a
+        → Wrote a (rows_of w r) mid new n → Wrote at (listing_of w r) old new n
     unfolding listing listing_text rows
     listing_wrote x y = wrote_more names_room x y
 

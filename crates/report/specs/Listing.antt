@@ -1,5 +1,5 @@
 -- The two listings of a report whose ends, verdict bytes and order stand in lists. Assumes nothing.
-use Rattle.std.specs.Prelude.{◌≡◌, Bool, true, ◌&&◌, List, ◌++◌, ℕ, ◌+◌, ◌≤◌, ◌<◌, length, take, get_or, leb, ltb}
+use Rattle.std.specs.Prelude.{◌≡◌, Option, None, Some, Bool, true, ◌&&◌, List, ◌++◌, ℕ, ◌+◌, ◌≤◌, ◌<◌, length, take, get_or, leb, ltb}
 use Rattle.csl.specs.Text.{Text, every}
 use Rattle.csl.specs.Verdicts.{Verdict}
 use Rattle.csl.specs.Order.{by_number}
@@ -8,8 +8,6 @@ use Rattle.csl.specs.Finished.{Answer, refused_with, accepted_with}
 use Rattle.verdicts.specs.Byte.{verdict_at}
 use Rattle.report.specs.declared.listings.Listing.{Listing}
 use Rattle.report.specs.declared.listings.Listing.TheVariants.{ByNumber, WorstFirst}
-use Rattle.report.specs.declared.listings.Remainder.{Remainder}
-use Rattle.report.specs.declared.listings.Remainder.TheVariants.{Bytes, Short}
 
 -- the number, and the verdict, of a state; a byte over 2 counts as undecided
 abbrev pub entry : List ℕ → ℕ → ℕ
@@ -57,7 +55,7 @@ pub record Complete (n : ℕ) (lower upper verdicts order : List ℕ) : Type 0 w
   pub places : n ≤ length order
   pub states : are_states n order ≡ true
 
--- what the text leaves of a room
-abbrev pub Leaves : Text → ℕ → Remainder → Type 0
-Leaves text room (Bytes left) = left + length text ≡ room
-Leaves text room Short = room < length text
+-- what the text leaves of a room; none where it is longer
+abbrev pub Leaves : Text → ℕ → Option ℕ → Type 0
+Leaves text room (Some left) = left + length text ≡ room
+Leaves text room None = room < length text

@@ -8,17 +8,9 @@ use crate::order::are_states;
 pub fn has_all(states: usize, lower: &[u32], upper: &[u32], verdicts: &[u8], order: &[u16]) -> bool
     ensures { result ≡ has_all states lower.now upper.now verdicts.now order.now }
 {
-    if lower.len() < states {
-        return false;
-    }
-    if upper.len() < states {
-        return false;
-    }
-    if verdicts.len() < states {
-        return false;
-    }
-    if order.len() < states {
-        return false;
-    }
-    are_states(states, order)
+    states <= lower.len()
+        && states <= upper.len()
+        && states <= verdicts.len()
+        && states <= order.len()
+        && are_states(states, order)
 }

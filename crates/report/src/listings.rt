@@ -1,170 +1,102 @@
 // The two listings of a report.
 ghost use Rattle.std.specs.Prelude.{◌≡◌, ◌<◌, length, leb};
-ghost use Rattle.csl.specs.Finished.{accepted_with};
 ghost use Rattle.decimals.specs.Place.{Room, Wrote};
-ghost use Rattle.report.specs.Listing.{Complete, state_at, listings, rows, listing, Leaves};
+ghost use Rattle.report.specs.Line.{text_of};
+ghost use Rattle.report.specs.Listing.{state_at, Leaves};
+ghost use Rattle.report.specs.Shown.{line_at, rows_of, listing_of, listings_of, Shown};
 
-use crate::order::index;
-use crate::row::{row_length, write_row};
+use crate::row::Row;
+use crate::rows::Rows;
 use decimals::write_bytes;
 use verdicts::Verdict;
 
-// Which of the two: the states by their numbers, or as they stand in the order.
+// Which of the two: the states by their numbers, or as they stand in the order. `state_at` and `listing_of` of specs/ go by it.
 #[derive(Clone, Copy)]
 enum Listing {
     ByNumber,
     WorstFirst,
 }
 
-// What a text leaves of a room.
-#[derive(Clone, Copy)]
-enum Remainder {
-    // So many bytes.
-    Bytes(usize),
-    // Less than nothing: the text is longer.
-    Short,
-}
-
-// The state whose line stands at a place of a listing.
-fn state_at(which: Listing, order: &[u16], place: usize) -> usize
-    requires { place < length order.now }
-    ensures { result ≡ state_at which place order.now }
-{
-    match which {
-        Listing::ByNumber => place,
-        Listing::WorstFirst => index(order[place]),
-    }
-}
-
-// What a listing leaves of a room.
-fn measure_listing(
-    room: usize,
-    which: Listing,
-    states: usize,
-    depth: u64,
-    lower: &[u32],
-    upper: &[u32],
-    verdicts: &[u8],
-    order: &[u16],
-) -> Remainder
-    requires { Complete states lower.now upper.now verdicts.now order.now }
-    ensures { Leaves (listing which states depth lower.now upper.now verdicts.now order.now)
-        room result }
-{
-    if room < 32 {
-        return Remainder::Short;
-    }
-    let mut left = room - 32;
-    let mut i: usize = 0;
-    while i < states {
-        let state = state_at(which, order, i);
-        let verdict = Verdict::from_byte(verdicts[state]);
-        let line = row_length(state, lower[state], upper[state], depth, verdict);
-        if left < line {
-            return Remainder::Short;
+impl Rows<'_> {
+    // The state whose line stands at a place of a listing.
+    fn state_at(&self, which: Listing, place: usize) -> usize
+        requires { place < self.now.states }
+        ensures is { result ≡ state_at which place self.now.order.now }
+        ensures within { result < self.now.states }
+    {
+        match which {
+            Listing::ByNumber => place,
+            Listing::WorstFirst => usize::from(self.order[place]),
         }
-        left -= line;
-        i += 1;
     }
-    Remainder::Bytes(left)
-}
 
-// Whether both listings, one behind the other, take at most `room` bytes.
-pub fn listings_fit(
-    room: usize,
-    states: usize,
-    depth: u64,
-    lower: &[u32],
-    upper: &[u32],
-    verdicts: &[u8],
-    order: &[u16],
-) -> bool
-    requires { Complete states lower.now upper.now verdicts.now order.now }
-    ensures { result ≡ leb
-        (length (listings states (accepted_with depth) lower.now upper.now verdicts.now order.now)) room }
-{
-    let first = Listing::ByNumber;
-    let worst = Listing::WorstFirst;
-    let Remainder::Bytes(left) = measure_listing(
-        room, first, states, depth, lower, upper, verdicts, order,
-    ) else {
-        return false;
-    };
-    match measure_listing(left, worst, states, depth, lower, upper, verdicts, order) {
-        Remainder::Bytes(_) => true,
-        Remainder::Short => false,
+    // That line.
+    fn line_at(&self, which: Listing, place: usize) -> Row
+        requires { place < self.now.states }
+        ensures { text_of result ≡ line_at which place self.now }
+    {
+        let state = self.state_at(which, place);
+        Row {
+            state,
+            lower: self.lower[state],
+            upper: self.upper[state],
+            depth: self.depth,
+            verdict: Verdict::from(self.verdicts[state]),
+        }
     }
-}
 
-// The lines of a listing's states.
-fn write_rows(
-    out: &mut [u8],
-    at: usize,
-    which: Listing,
-    states: usize,
-    depth: u64,
-    lower: &[u32],
-    upper: &[u32],
-    verdicts: &[u8],
-    order: &[u16],
-) -> usize
-    requires complete { Complete states lower.now upper.now verdicts.now order.now }
-    requires room { Room at (rows which states depth lower.now upper.now verdicts.now order.now) out.old }
-    ensures { Wrote at (rows which states depth lower.now upper.now verdicts.now order.now)
-        out.old out.new result }
-{
-    let mut next = at;
-    let mut i: usize = 0;
-    while i < states {
-        let state = state_at(which, order, i);
-        let verdict = Verdict::from_byte(verdicts[state]);
-        next = write_row(out, next, state, lower[state], upper[state], depth, verdict);
-        i += 1;
+    // What a listing leaves of a room; none where it is longer.
+    fn measure(&self, which: Listing, room: usize) -> Option<usize>
+        ensures { Leaves (listing_of which self.now) room result }
+    {
+        let mut left = room.checked_sub(32)?;
+        for place in 0..self.states {
+            left = left.checked_sub(self.line_at(which, place).length())?;
+        }
+        Some(left)
     }
-    next
-}
 
-// A listing: the line of names, and the lines of its states.
-fn write_listing(
-    out: &mut [u8],
-    at: usize,
-    which: Listing,
-    states: usize,
-    depth: u64,
-    lower: &[u32],
-    upper: &[u32],
-    verdicts: &[u8],
-    order: &[u16],
-) -> usize
-    requires complete { Complete states lower.now upper.now verdicts.now order.now }
-    requires room { Room at (listing which states depth lower.now upper.now verdicts.now order.now) out.old }
-    ensures { Wrote at (listing which states depth lower.now upper.now verdicts.now order.now)
-        out.old out.new result }
-{
-    let next = write_bytes(out, at, b"state,lower,upper,depth,verdict\n");
-    write_rows(
-        out, next, which, states, depth, lower, upper, verdicts, order,
-    )
-}
+    // Whether both listings, one behind the other, take at most `room` bytes.
+    fn fit(&self, room: usize) -> bool
+        ensures { result ≡ leb (length (listings_of self.now)) room }
+    {
+        let Some(left) = self.measure(Listing::ByNumber, room) else {
+            return false;
+        };
+        self.measure(Listing::WorstFirst, left).is_some()
+    }
 
-// Both listings, one behind the other, at the buffer's front.
-pub fn write_listings(
-    out: &mut [u8],
-    states: usize,
-    depth: u64,
-    lower: &[u32],
-    upper: &[u32],
-    verdicts: &[u8],
-    order: &[u16],
-) -> usize
-    requires complete { Complete states lower.now upper.now verdicts.now order.now }
-    requires room { Room 0 (listings states (accepted_with depth) lower.now upper.now verdicts.now order.now) out.old }
-    ensures { Wrote 0
-        (listings states (accepted_with depth) lower.now upper.now verdicts.now order.now)
-        out.old out.new result }
-{
-    let first = Listing::ByNumber;
-    let worst = Listing::WorstFirst;
-    let at = write_listing(out, 0, first, states, depth, lower, upper, verdicts, order);
-    write_listing(out, at, worst, states, depth, lower, upper, verdicts, order)
+    // Writes the lines of a listing's states.
+    fn write_rows(&self, which: Listing, out: &mut [u8], at: usize) -> usize
+        requires { Room at (rows_of which self.now) out.old }
+        ensures { Wrote at (rows_of which self.now) out.old out.new result }
+    {
+        let mut next = at;
+        for place in 0..self.states {
+            next = self.line_at(which, place).write(out, next);
+        }
+        next
+    }
+
+    // Writes a listing: the line of names, and the lines of its states.
+    fn write_listing(&self, which: Listing, out: &mut [u8], at: usize) -> usize
+        requires { Room at (listing_of which self.now) out.old }
+        ensures { Wrote at (listing_of which self.now) out.old out.new result }
+    {
+        let next = write_bytes(out, at, b"state,lower,upper,depth,verdict\n");
+        self.write_rows(which, out, next)
+    }
+
+    // Writes both listings, one behind the other, to the front of a buffer, and answers how long they are; none where it is too short, and it is as it
+    // was then.
+    pub fn render(&self, out: &mut [u8]) -> Option<usize>
+        ensures { Shown self.now out.old out.new result }
+    {
+        if self.fit(out.len()) {
+            let at = self.write_listing(Listing::ByNumber, out, 0);
+            Some(self.write_listing(Listing::WorstFirst, out, at))
+        } else {
+            None
+        }
+    }
 }

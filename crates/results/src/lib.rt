@@ -8,6 +8,8 @@ ghost use Rattle.verdict_rows.specs.Row.{EndsIn};
 
 // Writes the report of n states, from what deciding the formula left: the ends from the first 2 * n words, the lower ones and then the upper
 // ones, and the verdicts from the first row of bytes.
+// The result buffers stay apart: of a struct of `&mut` slices a clause could say what is left only as `exit.0`, `exit.1.0` and so on.
+#[tactic(auto, using(numbers::specs::Filled::table_written, crate::proofs::WriteLaw::column_copied))]
 pub fn write(
     words: &[u64],
     row: &[u8],
@@ -22,12 +24,9 @@ pub fn write(
     ensures uppers { upper.new ≡ written (column (λ s. get_or words.now (n + s) 0) n) upper.old }
     ensures bytes { verdicts.new ≡ written (column (λ s. get_or row.now s 0) n) verdicts.old }
 {
-    let mut s: usize = 0;
-    while s < n {
-        let above = n + s;
+    for s in 0..n {
         lower[s] = words[s] as u32;
-        upper[s] = words[above] as u32;
-        verdicts[s] = row[s];
-        s += 1;
+        upper[s] = words[n + s] as u32;
     }
+    verdicts[..n].copy_from_slice(&row[..n]);
 }

@@ -1,9 +1,8 @@
 -- The copy of a text that passed the tests of sheets passes them too, says the same chain, and is no longer. Assumes nothing.
-use Rattle.std.specs.Prelude.{◌≡◌, Bool, true, cond, ◌&&◌, ◌||◌, List, [], ◌∷◌, ℕ, ◌^◌, ◌≤◌, ◌<◌, leb}
+use Rattle.std.specs.Prelude.{◌≡◌, Bool, true, cond, ◌&&◌, ◌||◌, List, [], ◌∷◌, ℕ, ◌^◌, ◌≤◌, ◌<◌, leb, None}
 use Rattle.std.proofs.Math.Path.{refl}
 use Rattle.std.proofs.Common.{sym, ap, subst, ◌∙◌, arith}
 use Rattle.std.proofs.Math.Bool.{false, and-eq-true_iff}
-use Rattle.std.proofs.Math.Option.{none}
 use Rattle.std.proofs.Math.ListN.{length}
 use Rattle.std.proofs.Math.Dec.{eqb, ltb}
 use borrow.Author.Tests.{ne_eqb, ltb-false, le-ltb, lt-leb, not-false}
@@ -60,16 +59,16 @@ rate_least [] s t = omega arith
 rate_least (m ∷ ms) s t = omega (arith, rate_least ms s t, one_rate (eqb m.from s) (eqb m.to t) m.rate)
 
 -- the heads of texts that passed; and a moves text that passed is what is written of its moves
-heads : (moves labels : Text) → first_of (sheet_tests moves labels) ≡ none → (moves_head moves ≡ true) × (labels_head labels ≡ true)
+heads : (moves labels : Text) → first_of (sheet_tests moves labels) ≡ None → (moves_head moves ≡ true) × (labels_head labels ≡ true)
 unfolding sheet_tests NoneHolds wrong_first_line
 heads moves labels h =
     let t : NoneHolds (sheet_tests moves labels) = first_none (sheet_tests moves labels) h in
     (and-eq-true_iff (moves_head moves) (labels_head labels)).0 (not-false _ t.1.1.0)
 
-as_written : (moves labels : Text) → first_of (sheet_tests moves labels) ≡ none → moves_text (moves_of moves) ≡ moves
+as_written : (moves labels : Text) → first_of (sheet_tests moves labels) ≡ None → moves_text (moves_of moves) ≡ moves
 as_written moves labels h = text_written moves (sheet_passed moves labels h).moves_layout_lem (heads moves labels h).0
 
-module _ (moves labels : Text) (passed : first_of (sheet_tests moves labels) ≡ none) where
+module _ (moves labels : Text) (passed : first_of (sheet_tests moves labels) ≡ None) where
   abbrev n : ℕ
   n = states_of labels
 
@@ -124,7 +123,7 @@ module _ (moves labels : Text) (passed : first_of (sheet_tests moves labels) ≡
       omega (arith, ap length copy_written, pairs_short ms n kept.sound.within kept.sound.moving, ap length (as_written moves labels passed))
 
   -- a text that rises is its own copy: there is one such text for a chain
-  pub rising_is_the_copy : (b : Text) → first_of (sheet_tests b labels) ≡ none → is_rising (moves_of b) ≡ true
+  pub rising_is_the_copy : (b : Text) → first_of (sheet_tests b labels) ≡ None → is_rising (moves_of b) ≡ true
       → ((s t : ℕ) → rate_in (moves_of b) s t ≡ rate_in ms s t) → b ≡ copy
   rising_is_the_copy b p r h =
       let k : SheetPassed b labels = sheet_passed b labels p in
@@ -192,7 +191,7 @@ module _ (moves labels : Text) (passed : first_of (sheet_tests moves labels) ≡
       (λ m p. either_no (eqb m.rate 0) (ltb most_rate (rates_out (moves_of copy) m.from)) (ne_eqb m.rate 0 p.some) (le-ltb most_rate _ (totals m.from)))
       pairs are))
 
-  pub copy_passes : first_of (sheet_tests copy labels) ≡ none
+  pub copy_passes : first_of (sheet_tests copy labels) ≡ None
   unfolding sheet_tests NoneHolds broken_layout wrong_first_line many_moves
   copy_passes =
       none_first (sheet_tests copy labels)

@@ -1,9 +1,8 @@
 -- Jobs that differ in the order of their move lines alone: the tests, the outcome and what is finished are the same. Assumes nothing.
-use Rattle.std.specs.Prelude.{◌≡◌, true, ◌||◌, ℕ, ◌+◌, length, eqb, ltb, leb}
+use Rattle.std.specs.Prelude.{◌≡◌, true, ◌||◌, ℕ, ◌+◌, length, eqb, ltb, leb, Option, None, Some}
 use Rattle.std.proofs.Math.Path.{refl, ap, sym}
 use Rattle.std.proofs.Common.{subst, ◌∙◌, arith, length-append}
 use mathlib.Core.List.{List, [], ◌∷◌, head_d}
-use Rattle.std.proofs.Math.Option.{Option, none, some}
 use Rattle.csl.specs.Text.{Text}
 use Rattle.csl.specs.Limits.{most_rate}
 use Rattle.csl.specs.Line.{line_feed, lines_of, first_line, later_lines, is_ended}
@@ -113,8 +112,8 @@ module _ (a b : Text) (h : SameLines a b) where
 
     same_by : (o : Option ℕ) → outcome_by one o ≡ outcome_by other o
     unfolding outcome_by
-    same_by none = rw (same_chain labels) refl
-    same_by (some number) = refl
+    same_by None = rw (same_chain labels) refl
+    same_by (Some number) = refl
 
     pub same_outcome : (lent : Buffers ℕ) → outcome one lent ≡ outcome other lent
     unfolding outcome
@@ -136,8 +135,8 @@ module _ (a b : Text) (h : SameLines a b) where
 
       finished_by : (o : Option ℕ) → FinishedBy one (outcome_by one o) before x after → FinishedBy other (outcome_by other o) before x after
       unfolding outcome_by FinishedBy
-      finished_by none k = moved (job_chain one) (job_chain other) (same_chain labels) k
-      finished_by (some number) k = k
+      finished_by None k = moved (job_chain one) (job_chain other) (same_chain labels) k
+      finished_by (Some number) k = k
 
       pub same_finished : Finished one before x after → Finished other before x after
       unfolding Finished outcome

@@ -1,8 +1,7 @@
 -- Two moves texts over the same labels, both of which passed: where their rates are the same, all that is said of a job over one is said of it over
 -- the other; and they are the same exactly where the copies are. Assumes nothing.
-use Rattle.std.specs.Prelude.{◌≡◌, refl, Bool, true, false, ℕ, ◌<◌}
+use Rattle.std.specs.Prelude.{◌≡◌, refl, Bool, true, false, ℕ, ◌<◌, None}
 use Rattle.std.proofs.Common.{ap, sym, subst, ◌∙◌}
-use Rattle.std.proofs.Math.Option.{none}
 use Rattle.csl.specs.Text.{Text}
 use Rattle.csl.specs.Limits.{formula_bytes}
 use Rattle.csl.specs.Labels.{names_of, states_of}
@@ -22,7 +21,7 @@ use Rattle.same_chain.specs.Copies.{copy_rates}
 abbrev pub EqualRates : (labels a b : Text) → Type 0
 EqualRates labels a b = (s t : ℕ) → s < states_of labels → t < states_of labels → rate_in (moves_of a) s t ≡ rate_in (moves_of b) s t
 
-module _ (labels a b : Text) (passed-a : first_of (sheet_tests a labels) ≡ none) (passed_b : first_of (sheet_tests b labels) ≡ none) where
+module _ (labels a b : Text) (passed-a : first_of (sheet_tests a labels) ≡ None) (passed_b : first_of (sheet_tests b labels) ≡ None) where
   pub one_chain : EqualRates labels a b → chain_in a labels ≡ chain_in b labels
   one_chain h =
       same_everywhere a b labels

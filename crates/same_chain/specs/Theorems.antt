@@ -1,8 +1,7 @@
 -- What follows for texts that say the same chain: "lines may stand in any order and repeated pairs are added together"; and for the clean copy.
 -- Nothing here speaks of a program. Assumes nothing.
-use Rattle.std.specs.Prelude.{◌≡◌, refl, true, List, ℕ, ◌≤◌, length}
+use Rattle.std.specs.Prelude.{◌≡◌, refl, true, List, ℕ, ◌≤◌, length, None}
 use Rattle.std.proofs.Common.{sym}
-use Rattle.std.proofs.Math.Option.{none}
 use Rattle.csl.specs.Text.{Text}
 use Rattle.csl.specs.Moves.{moves_of, rate_in}
 use Rattle.csl.specs.Verdicts.{Verdict}
@@ -39,7 +38,7 @@ module _ (a b : Text) (h : SameLines a b) (labels formula : Text) where
 -- T12. "repeated pairs are added together": two moves texts that passed over the same labels, with equal rates between all states, however many
 -- lines say them. They say one chain; so a formula over one is refused as over the other, and has the same reports. "Two accepted move texts over the
 -- same labels have equal copies exactly when every pair has equal rate."
-module _ (labels a b : Text) (passed-a : first_of (sheet_tests a labels) ≡ none) (passed_b : first_of (sheet_tests b labels) ≡ none) where
+module _ (labels a b : Text) (passed-a : first_of (sheet_tests a labels) ≡ None) (passed_b : first_of (sheet_tests b labels) ≡ None) where
   pub equal_rates_are_one_chain : EqualRates labels a b → chain_in a labels ≡ chain_in b labels
   equal_rates_are_one_chain = rates.one_chain labels a b passed-a passed_b
 
@@ -57,8 +56,8 @@ module _ (labels a b : Text) (passed-a : first_of (sheet_tests a labels) ≡ non
     reported_alike = rates.same_reports labels a b passed-a passed_b h formula
 
 -- T13. The copy of a text that passed: "the moves text that document 01 described, .. pairs rising and none twice".
-module _ (moves labels : Text) (passed : first_of (sheet_tests moves labels) ≡ none) where
-  pub copies_are_accepted : first_of (sheet_tests (copy_text moves labels) labels) ≡ none
+module _ (moves labels : Text) (passed : first_of (sheet_tests moves labels) ≡ None) where
+  pub copies_are_accepted : first_of (sheet_tests (copy_text moves labels) labels) ≡ None
   copies_are_accepted = copies.copy_passes moves labels passed
 
   -- "Reading its output yields the same chain"
@@ -69,7 +68,7 @@ module _ (moves labels : Text) (passed : first_of (sheet_tests moves labels) ≡
   copies_rise = copies.copy_rises moves labels passed
 
   -- there is no other: a text that passed, rises and has these rates is the copy, byte for byte; so a text that rises is its own copy
-  pub only_the_copy_rises : (b : Text) → first_of (sheet_tests b labels) ≡ none → is_rising (moves_of b) ≡ true
+  pub only_the_copy_rises : (b : Text) → first_of (sheet_tests b labels) ≡ None → is_rising (moves_of b) ≡ true
       → ((s t : ℕ) → rate_in (moves_of b) s t ≡ rate_in (moves_of moves) s t) → b ≡ copy_text moves labels
   only_the_copy_rises = copies.rising_is_the_copy moves labels passed
 

@@ -1,7 +1,7 @@
 -- A copy that was made, told by a number and a stored length. Assumes nothing.
 use mathlib.Core.Path.{◌≡◌, refl, sym, subst}
 use mathlib.Core.List.{List}
-use mathlib.Core.Option.{Option, none, some}
+use Rattle.std.specs.Prelude.{Option, None, Some, Ok, Err}
 use Prim.Native.Nat.{ℕ, zero, suc, ◌<◌}
 use native.Mathlib.Omega.{arith}
 use lib.ListN.{length}
@@ -9,8 +9,8 @@ use Rattle.csl.specs.Text.{Text}
 use Rattle.csl.specs.Copy.{CopyAnswer, copy_refused, copied, copy_text, copy_refusal, CopiedBy, Copied}
 use Rattle.clean_copy.specs.Answer.{answer_of}
 use Rattle.clean_copy.specs.Number.{copy_number_some}
-use Rattle.clean_copy.specs.declared.CopyAnswer as code
-use Rattle.clean_copy.specs.declared.CopyAnswer.TheVariants.{Length, Refused}
+use Rattle.verdicts.specs.Refusal.{number_of}
+use Rattle.verdicts.specs.declared.refusal.Refusal.{Refusal}
 use Rattle.sebdyqul.specs.Called.{copy_answer_from, CopyCalled}
 
 module _ (moves labels : Text) (before after : List ℕ) where
@@ -24,19 +24,20 @@ module _ (moves labels : Text) (before after : List ℕ) where
   told a c = go (copy_refusal moves labels (length before)) refl c
     where
       go : (o : Option ℕ) → copy_refusal moves labels (length before) ≡ o → CopiedBy o (copy_text moves labels) before a after → Told a
-      go (some k) e t = subst Told (sym t.0) (copy_number_some moves labels (length before) k e)
-      go none e t = subst Told (sym t.0) tt
+      go (Some k) e t = subst Told (sym t.0) (copy_number_some moves labels (length before) k e)
+      go None e t = subst Told (sym t.0) tt
 
   -- the number of a refusal is told as it is
   same_answer : (k n : ℕ) → 0 < k → copy_answer_from k n ≡ copy_refused k
   same_answer zero n h = absurd (omega arith)
   same_answer (suc k) n h = refl
 
-  module _ (x : code.CopyAnswer) (c : Copied moves labels before (answer_of x) after) (old : ℕ) where
-    pub copied_called : (n : ℕ) → x ≡ Length n → CopyCalled moves labels before old 0 n after
-    copied_called n e = record { made = rw e at c; kept = λ h. absurd (omega arith) }
+  module _ (old : ℕ) where
+    pub copied_called : (n : ℕ) → Copied moves labels before (answer_of (Ok n)) after → CopyCalled moves labels before old 0 n after
+    copied_called n c = record { made = c; kept = λ h. absurd (omega arith) }
 
-    pub refused_called : (k : ℕ) → x ≡ Refused k → CopyCalled moves labels before old k old after
-    refused_called k e =
-        let d : Copied moves labels before (copy_refused k) after = rw e at c in
-        record { made = rw (same_answer k old (told (copy_refused k) d)) d; kept = λ h. refl }
+    pub refused_called : (r : Refusal) {k : ℕ} → k ≡ number_of r → Copied moves labels before (answer_of (Err r)) after
+        → CopyCalled moves labels before old k old after
+    refused_called r e c =
+        let some = told (copy_refused (number_of r)) c in
+        rw e (record { made = rw (same_answer (number_of r) old some) c; kept = λ h. refl })

@@ -5,15 +5,12 @@
 ghost use Rattle.checker.specs.Job.{job, buffers};
 ghost use Rattle.sebdyqul.specs.Called.{Called, CopyCalled};
 
-use clean_copy::CopyAnswer;
-use verdicts::Answer;
-
 // Checks a job. An accepted job answers 0 and stores its depth; a refused one answers its number, and then neither the depth nor a buffer
 // has changed.
 //
 // All is determined, for all texts and lengths: the answer, the depth, and every place of every lent buffer. Document 01 leaves open the two
 // ends of a `P` (numbers that keep the rules for ends), and the verdicts and later ends that follow from them; here they are those that
-// `checker::check` finds, by the chain and the formula alone.
+// `checker::check` finds, by the chain and the formula alone. Texts and buffers come apart, as the C interface has them.
 #[unsafe(no_mangle)]
 pub extern "C" fn sebdyqul_check(
     moves: &[u8],
@@ -39,13 +36,12 @@ pub extern "C" fn sebdyqul_check(
     let checked = checker::check(
         moves, labels, formula, lower, upper, verdicts, order, words, vectors, marks,
     );
-    let answer = checked.answer;
-    match answer {
-        Answer::Accepted(d) => {
-            *depth = d;
+    match checked {
+        Ok(accepted) => {
+            *depth = accepted.depth;
             0
         }
-        Answer::Refused(number) => number,
+        Err(refusal) => u64::from(refusal),
     }
 }
 
@@ -64,10 +60,10 @@ pub extern "C" fn sebdyqul_copy(
         length.old result length.new copy.new }
 {
     match clean_copy::copy(moves, labels, copy) {
-        CopyAnswer::Length(bytes) => {
+        Ok(bytes) => {
             *length = bytes as u64;
             0
         }
-        CopyAnswer::Refused(number) => number,
+        Err(refused) => u64::from(refused),
     }
 }

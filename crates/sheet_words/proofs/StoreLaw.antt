@@ -2,20 +2,19 @@
 use mathlib.Core.Path.{◌≡◌, refl, sym, ap, ◌∙◌}
 use mathlib.Core.Bool.{Bool, true, false, true≢false}
 use mathlib.Core.List.{List}
-use Prim.Native.Nat.{ℕ, ◌+◌, ◌*◌, ◌≤◌, ◌<◌}
+use Prim.Native.Nat.{ℕ, ◌+◌, ◌≤◌, ◌<◌}
 use native.Mathlib.Omega.{arith}
 use lib.ListN.{length, take, drop, length-drop}
 use lib.Seq.{get_or-take, get_or-drop, length-take-le, ext_get_or}
-use mir.Val.{Fits}
-use mir.Syntax.{w64}
 use Rattle.csl.specs.Text.{Text}
 use Rattle.csl.specs.Labels.{states_of}
-use Rattle.csl.specs.Moves.{moves_of}
+use Rattle.csl.specs.Moves.{moves_layout, moves_of}
 use Rattle.csl.specs.Sheet.{sheet_of}
 use Rattle.csl.specs.Chain.{chain_of}
 use Rattle.accepted.specs.Sheet.{SheetPassed}
+use Rattle.refusals.specs.Sheet.{dimensions_of}
 use Rattle.numbers.specs.Filled.{at, Filled, Table}
-use Rattle.numbers.specs.Part.{rest, back, rest_length, part_filled}
+use Rattle.numbers.specs.Part.{rest, rest_length, back, part_filled}
 use Rattle.moves.specs.Words.{move_word}
 use Rattle.labels.specs.Words.{state_word}
 use Rattle.rate_matrix.specs.Halves.{half, own_rate}
@@ -140,43 +139,39 @@ module _ {m₀ labels : Text} (p : SheetPassed m₀ labels) {words₀ words₁ :
             beyond = λ k b. f.after k (omega arith) ∙ x.else k (λ c d. omega arith) ∙ l.beyond k (omega arith);
           }
 
-module _ {m₀ labels : Text} {d : Dimensions} {words₀ vectors₀ : List ℕ} (p : StoreAsked m₀ labels d words₀ vectors₀) where
-  moves_are : d.moves ≡ length (moves_of m₀)
-  moves_are = ap (λ (x : Dimensions). x.moves) p.is
+-- a sheet that passed its tests
+module _ {m₀ labels : Text} {d : Dimensions} (is : d ≡ dimensions_of m₀ labels)
+    {words₀ vectors₀ : List ℕ} (p : StoreAsked m₀ labels words₀ vectors₀) where
+  good : SheetPassed m₀ labels
+  good = p.passed
 
-  pub rows_room : d.moves ≤ length words₀
-  rows_room = omega (arith, moves_are, p.room)
-
-  pub byte_fits : Fits w64 (d.moves * 8)
-  byte_fits = omega (arith, moves_are, p.passed.sound.few_moves)
-
-  pub moves_room : length (moves_of m₀) ≤ length (rest words₀ d.moves)
-  moves_room = omega (arith, rest_length words₀ d.moves, moves_are, p.room)
+  pub moves_room : (moves_layout m₀ ≡ true) × (length (moves_of m₀) ≤ length (rest words₀ d.moves))
+  moves_room = (good.moves_layout_lem, omega (arith, rest_length words₀ d.moves, ap (λ (x : Dimensions). x.moves) is, p.room))
 
   module _ {ys : List ℕ} (y : Table (move_word m₀) (rest words₀ d.moves) ys (length (moves_of m₀))) where
     moved : Filled (move_word m₀) (length (moves_of m₀)) (length (moves_of m₀)) words₀ (back words₀ (length (moves_of m₀)) ys)
-    moved = part_filled words₀ (length (moves_of m₀)) (omega (arith, p.room)) (rw p.is at y)
+    moved = part_filled words₀ (length (moves_of m₀)) (omega (arith, p.room)) (rw is at y)
 
     pub prepare_asked : PrepareAsked (back words₀ d.moves ys) d.moves vectors₀ d.states
-    prepare_asked = rw p.is (record { lines = lines p.passed p.room moved; behind = omega (arith, moved.same, p.room); long = p.long })
+    prepare_asked = rw is (record { lines = lines good p.room moved; behind = omega (arith, moved.same, p.room); long = p.long })
 
     module _ {words₂ vectors₁ : List ℕ} (l : Laid (back words₀ d.moves ys) words₂ d.moves d.states vectors₀ vectors₁) where
       pub may_index_words : IndexAsked words₂ d.moves vectors₁ (owns_from d.states) d.states
-      may_index_words = rw p.is (index_asked p.passed p.room moved (rw p.is at l) p.long)
+      may_index_words = rw is (index_asked good p.room moved (rw is at l) p.long)
 
       module _ {wanted : Bool} {words vectors₂ : List ℕ} (x : IndexStored wanted words₂ words d.moves d.states vectors₁ vectors₂) where
         pub marks_asked : MarksAsked labels d.names vectors₂ d.states
         marks_asked =
-            rw p.is
+            rw is
             (record {
-              layout = p.passed.labels_layout_lem;
+              layout = good.labels_layout_lem;
               count = refl;
-              few = p.passed.sound.few_names;
+              few = good.sound.few_names;
               states = refl;
-              small = p.passed.sound.few_states;
+              small = good.sound.few_states;
               long = omega (arith, x.long, l.same, p.long);
             })
 
         pub stored : {vectors : List ℕ} → Filled (state_word labels) (marks_from d.states) d.states vectors₂ vectors
             → Stored wanted m₀ labels words₀ words vectors₀ vectors
-        stored f = all_stored p.passed p.room moved (rw p.is at l) p.long (rw p.is at x) (rw p.is at f)
+        stored f = all_stored good p.room moved (rw is at l) p.long (rw is at x) (rw is at f)

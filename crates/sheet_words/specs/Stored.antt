@@ -16,8 +16,6 @@ use Rattle.incoming_moves.specs.Indexed.{Indexed}
 use Rattle.incoming_moves.specs.Shown.{IndexShows}
 use Rattle.vectors.specs.Places.{values_from, owns_from, marks_from, vector_length, own_at}
 use Rattle.vectors.specs.Prepared.{Prepared}
-use Rattle.refusals.specs.Sheet.{dimensions_of}
-use Rattle.refusals.specs.declared.sheet_tests.Dimensions.{Dimensions}
 
 -- labels whose marks are to be stored, and room for them
 pub record MarksAsked (labels : Text) (names : ℕ) (l : List ℕ) (n : ℕ) : Type 0 where
@@ -29,9 +27,8 @@ pub record MarksAsked (labels : Text) (names : ℕ) (l : List ℕ) (n : ℕ) : T
   pub long : vector_length n ≤ length l
 
 -- a sheet that passed its tests is to be stored in words that have room for it
-pub record StoreAsked (moves labels : Text) (d : Dimensions) (words vectors : List ℕ) : Type 0 where
+pub record StoreAsked (moves labels : Text) (words vectors : List ℕ) : Type 0 where
   pub passed : SheetPassed moves labels
-  pub is : d ≡ dimensions_of moves labels
   pub room : length (moves_of moves) + length (moves_of moves) ≤ length words
   pub long : vector_length (states_of labels) ≤ length vectors
 

@@ -5,15 +5,18 @@
 
 #![tactic(auto)]
 
+mod sheet;
+
 ghost use Rattle.labels.specs.Words.{state_word};
 ghost use Rattle.numbers.specs.Filled.{Filled};
 ghost use Rattle.incoming_moves.specs.Indexed.{IndexAsked};
 ghost use Rattle.vectors.specs.Places.{owns_from, marks_from};
 ghost use Rattle.sheet_words.specs.Stored.{MarksAsked, IndexStored, StoreAsked, Stored};
 
-use refusals::Dimensions;
+pub use sheet::Sheet;
 
 // The marks of the labels at every state, in their place among the vector words.
+#[tactic(auto, using(crate::proofs::MarksLaw::marks_stored))]
 fn store_marks(labels: &[u8], names: usize, vectors: &mut [u64], n: usize)
     requires { MarksAsked labels.now names vectors.old n }
     ensures { Filled (state_word labels.now) (marks_from n) n vectors.old vectors.new }
@@ -23,6 +26,7 @@ fn store_marks(labels: &[u8], names: usize, vectors: &mut [u64], n: usize)
 }
 
 // The index of the first m words, behind them, where it is wanted.
+#[tactic(auto, using(crate::proofs::StoreLaw::index_stored, crate::proofs::StoreLaw::none_stored))]
 fn store_index(words: &mut [u64], m: usize, vectors: &mut [u64], n: usize, wanted: bool)
     requires { IndexAsked words.old m vectors.old (owns_from n) n }
     ensures { IndexStored wanted words.old words.new m n vectors.old vectors.new }
@@ -34,22 +38,15 @@ fn store_index(words: &mut [u64], m: usize, vectors: &mut [u64], n: usize, wante
 
 // A sheet's two texts into the lent words, with the index of its moves where that is wanted. The moves are read to behind the place of the rows,
 // from where they are laid, and where the index then stands.
-pub fn store(
-    moves: &[u8],
-    labels: &[u8],
-    sheet: Dimensions,
-    words: &mut [u64],
-    vectors: &mut [u64],
-    wanted: bool,
-)
-    requires { StoreAsked moves.now labels.now sheet words.old vectors.old }
-    ensures { Stored wanted moves.now labels.now
+pub fn store(sheet: Sheet, words: &mut [u64], vectors: &mut [u64], wanted: bool)
+    requires { StoreAsked sheet.moves.now sheet.labels.now words.old vectors.old }
+    ensures { Stored wanted sheet.entry.moves.now sheet.entry.labels.now
         words.old words.new vectors.old vectors.new }
 {
-    let n = sheet.states;
-    let m = sheet.moves;
-    moves::store(moves, &mut words[m..]);
+    let n = sheet.has.states;
+    let m = sheet.has.moves;
+    moves::store(sheet.moves, &mut words[m..]);
     vectors::prepare(words, m, vectors, n);
     store_index(words, m, vectors, n, wanted);
-    store_marks(labels, sheet.names, vectors, n);
+    store_marks(sheet.labels, sheet.has.names, vectors, n);
 }

@@ -2,7 +2,9 @@
 use mathlib.Core.Path.{◌≡◌, refl, ap, ◌∙◌}
 use mathlib.Core.Bool.{true}
 use mathlib.Core.List.{List}
-use mathlib.Core.Option.{Option, none, some}
+use Rattle.std.specs.Prelude.{Option, None, Some, Result, Ok, Err}
+use Rattle.std.specs.Option.{unwrap_or}
+use Rattle.std.specs.Result.{result_err}
 use Prim.Native.Nat.{ℕ, ◌≤◌, ◌<◌}
 use native.Mathlib.Omega.{arith}
 use lib.ListN.{length, take}
@@ -15,23 +17,24 @@ use Rattle.csl.specs.Order.{is_above, worst_first}
 use Rattle.csl.specs.Report.{report_text, refusal_text, depth_of}
 use Rattle.csl.specs.Lent.{Buffers, lengths, verdict_byte, column, written, filled}
 use Rattle.csl.specs.Refusal.{Job, job_states, job_chain, job_formula, text_refusal, outcome}
-use Rattle.csl.specs.Finished.{Answer, Accepted, TurnedBack, Finished, FinishedBy}
+use Rattle.csl.specs.Finished.{Answer, refused_with, accepted_with, Accepted, TurnedBack, Finished, FinishedBy}
 use Rattle.csl.proofs.Laws.Order.{ordered_length}
 use Rattle.accepted.specs.Job.{passed, refused_by_texts, accepted_by_all, text_number_most}
 use Rattle.console.specs.Counts.{IsPrefixLen}
 use Rattle.console.proofs.Counting.{prefix_len_of_le}
 use Rattle.verdicts.specs.Byte.{verdict_at, byte_read}
+use Rattle.verdicts.specs.Answer.{answer_of}
+use Rattle.verdicts.specs.declared.answer.Accepted as code
+use Rattle.verdicts.specs.declared.refusal.Refusal.{Refusal}
 use Rattle.results.specs.Column.{column_length, written_length, written_at_lem}
 use Rattle.checker.specs.Job.{states_in}
-use Rattle.report.specs.declared.Rendered.{Rendered}
-use Rattle.report.specs.declared.Rendered.TheVariants as rendered
 use Rattle.report.specs.Listing.{listings}
 use Rattle.report.specs.Rendering.{is_complete, fits, Printed}
 use Rattle.report.specs.Refused.{refusal_few}
 use Rattle.report.specs.Worst.{worst_are_states, worst_listed}
-use Rattle.console.specs.Told.{number_or0}
+use Rattle.console.specs.Told.{number_told}
 use Rattle.console.specs.declared.printing.Written.{Written}
-use Rattle.sheetcheck.specs.Prints.{Prints, Answered, length_of, number_in}
+use Rattle.sheetcheck.specs.Prints.{Prints, Answered}
 use Rattle.sheetcheck.proofs.Limits.{none_short, depth_few, InRange, ends_in_range}
 use Rattle.sheetcheck.proofs.Lines.{report_few}
 
@@ -45,35 +48,40 @@ pub record Roomy (b : Buffers (List ℕ)) : Type 0 where
   pub vectors : 5632 ≤ length b.vectors
   pub marks : 8704 ≤ length b.marks
 
+-- the number that an answer is refused with
+abbrev refused_in : Answer → Option ℕ
+refused_in (refused_with number) = Some number
+refused_in (accepted_with d) = None
+
 -- the rendering is the text for the job, and the answer has its number
-pub record TextFor (j : Job) (a : Answer) (old new : List ℕ) (r : Rendered) : Type 0 where
+pub record TextFor (j : Job) (a : Answer) (old new : List ℕ) (r : Option ℕ) : Type 0 where
   pub text : Text
   pub prints : Prints j text
-  pub answer : r ≡ rendered.Text (length text)
+  pub answer : r ≡ Some (length text)
   pub buffer : new ≡ written text old
   pub fit : length text ≤ length old
-  pub number : number_in a ≡ number_or0 (text_refusal j)
+  pub number : refused_in a ≡ text_refusal j
 
 -- a text that fits
-fitting_text : (j : Job) (n : ℕ) (a : Answer) (l u b o old new : List ℕ) (r : Rendered) (text : Text) → listings n a l u b o ≡ text
-    → is_complete n a l u b o ≡ true → length text ≤ length old → Prints j text → number_in a ≡ number_or0 (text_refusal j) → Printed n a l u b o old new r
+fitting_text : (j : Job) (n : ℕ) (a : Answer) (l u b o old new : List ℕ) (r : Option ℕ) (text : Text) → listings n a l u b o ≡ text
+    → is_complete n a l u b o ≡ true → length text ≤ length old → Prints j text → refused_in a ≡ text_refusal j → Printed n a l u b o old new r
     → TextFor j a old new r
 unfolding fits
 fitting_text j n a l u b o old new r text e c h t k p =
     let f : fits (length old) n a l u b o ≡ true = rw (c, e) (le-leb (length text) (length old) h) in
     record { text = text; prints = t; answer = rw (f, e) at p.answer; buffer = rw (f, e) at p.buffer; fit = h; number = k }
 
-module _ (j : Job) (before after : Buffers (List ℕ)) (a : Answer) (n : ℕ) (old new : List ℕ) (r : Rendered) (big : 65536 ≤ length old)
+module _ (j : Job) (before after : Buffers (List ℕ)) (a : Answer) (n : ℕ) (old new : List ℕ) (r : Option ℕ) (big : 65536 ≤ length old)
     (p : Printed n a after.lower after.upper after.verdicts after.order old new r) where
   -- a refusal
-  refusal_text_lem : (k : ℕ) → text_refusal j ≡ some k → TurnedBack k before a after → TextFor j a old new r
+  refusal_text_lem : (k : ℕ) → text_refusal j ≡ Some k → TurnedBack k before a after → TextFor j a old new r
   unfolding Prints listings
   refusal_text_lem k e t =
       fitting_text j n a after.lower after.upper after.verdicts after.order old new r (refusal_text k) (rw t.answer refl) (rw t.answer refl)
       (omega (arith, refusal_few k (text_number_most j k e))) (rw e refl) (rw (t.answer, e) refl) p
 
   -- a report
-  module _ (e : text_refusal j ≡ none) (here : n ≡ job_states j) (lent : Roomy before)
+  module _ (e : text_refusal j ≡ None) (here : n ≡ job_states j) (lent : Roomy before)
       (t : Accepted j (job_chain j) (job_formula j) (depth_of (job_chain j) (job_formula j)) before a after) where
     few : n ≤ 512
     few = omega (arith, (passed j e).sheet.sound.few_states)
@@ -146,17 +154,21 @@ module _ (j : Job) (before after : Buffers (List ℕ)) (a : Answer) (n : ℕ) (o
   answer_text f s lent = go (text_refusal j) refl
     where
       go : (o : Option ℕ) → text_refusal j ≡ o → TextFor j a old new r
-      go (some k) e = refusal_text_lem k e (rw (refused_by_texts j (lengths before) k e) at f)
-      go none e =
+      go (Some k) e = refusal_text_lem k e (rw (refused_by_texts j (lengths before) k e) at f)
+      go None e =
           let q = none_short j (passed j e) (lengths before) lent.lowers lent.uppers lent.bytes lent.places lent.words lent.vectors lent.marks in
           let o = accepted_by_all j (lengths before) e q in
           report_text_lem e (s ∙ ap states_in o) lent (rw o at f)
 
--- what is answered: the text's length and the number
-pub text_answered : {j : Job} {a : Answer} {old new : List ℕ} {r : Rendered} (w : Written) → TextFor j a old new r → w.length ≡ length_of r
-    → w.number ≡ number_in a → IsPrefixLen w.length new × Answered j old new w
-text_answered {old = old} w p e k =
-    let q : w.length ≡ length p.text = e ∙ ap length_of p.answer in (
+-- what is answered: the text's length and the refusal
+told_is : (a : Result code.Accepted Refusal) → number_told (result_err a) ≡ refused_in (answer_of a)
+told_is (Ok accepted) = refl
+told_is (Err refusal) = refl
+
+pub text_answered : {j : Job} (a : Result code.Accepted Refusal) {old new : List ℕ} {r : Option ℕ} (w : Written) → TextFor j (answer_of a) old new r
+    → w.length ≡ unwrap_or r 0 → w.refusal ≡ result_err a → IsPrefixLen w.length new × Answered j old new w
+text_answered a {old = old} {r = r} w p e k =
+    let q : w.length ≡ length p.text = e ∙ ap (λ (o : Option ℕ). unwrap_or o 0) p.answer in (
       prefix_len_of_le _ _ (omega (arith, p.fit, ap length p.buffer, written_length p.text old p.fit)),
-      record { text = p.text; prints = p.prints; count = q; number = k ∙ p.number; buffer = p.buffer },
+      record { text = p.text; prints = p.prints; count = q; number = ap number_told k ∙ told_is a ∙ p.number; buffer = p.buffer },
     )

@@ -1,14 +1,11 @@
 // The text that is printed for a job.
-ghost use Rattle.std.specs.Prelude.{◌≡◌, ◌≤◌, length};
+ghost use Rattle.std.specs.Prelude.{◌≤◌, length};
 ghost use Rattle.console.specs.Counts.{IsPrefixLen};
-ghost use Rattle.verdicts.specs.Paper.{answer_of};
 ghost use Rattle.checker.specs.Job.{job};
-ghost use Rattle.sheetcheck.specs.Prints.{Answered, length_of, number_in};
+ghost use Rattle.sheetcheck.specs.Prints.{Answered};
 
 use console::Written;
 use limits::MOST_STATES;
-use report::Rendered;
-use verdicts::Answer;
 
 // The lengths of move words, vector words and mark bytes that are enough for every job.
 const MOVE_WORDS: usize = limits::MOVE_PLACES * limits::MOST_MOVES;
@@ -51,38 +48,9 @@ pub fn write_answer(moves: &[u8], labels: &[u8], formula: &[u8], out: &mut [u8])
         &mut vectors,
         &mut marks,
     );
-    let answer = checked.answer;
-    let rendered = report::render(
-        out,
-        checked.states,
-        answer,
-        &lower,
-        &upper,
-        &verdicts,
-        &order,
-    );
+    let rendered = report::render(out, checked, &lower, &upper, &verdicts, &order);
     Written {
-        length: length_of(rendered),
-        number: number_in(answer),
-    }
-}
-
-// How long a rendered text is; 0 where there was no room for it.
-fn length_of(rendered: Rendered) -> usize
-    ensures { result ≡ length_of rendered }
-{
-    match rendered {
-        Rendered::Text(length) => length,
-        Rendered::Short => 0,
-    }
-}
-
-// The number of a refusal; 0 where the job is accepted.
-fn number_in(answer: Answer) -> u64
-    ensures { result ≡ number_in (answer_of answer) }
-{
-    match answer {
-        Answer::Accepted(_) => 0,
-        Answer::Refused(number) => number,
+        length: rendered.unwrap_or(0),
+        refusal: checked.err(),
     }
 }

@@ -17,6 +17,5 @@ fn main(rt: HostRuntime) {
     let l = read_text(&rt, b"labels.txt", &mut labels);
     let f = read_text(&rt, b"formula.txt", &mut formula);
     let written = write_answer(&moves[..m], &labels[..l], &formula[..f], &mut out);
-    let n = written.length;
-    print(&rt, b"sheetcheck", &out[..n], written.number);
+    print(&rt, b"sheetcheck", &out[..written.length], written.refusal);
 }

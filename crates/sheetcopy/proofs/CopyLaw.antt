@@ -1,7 +1,7 @@
 -- From a copy that was made, or refused, to the text that is printed. Assumes nothing.
 use mathlib.Core.Path.{◌≡◌, refl, ap, ◌∙◌}
 use mathlib.Core.List.{List, [], ◌∷◌, ◌++◌}
-use mathlib.Core.Option.{Option, none, some}
+use Rattle.std.specs.Prelude.{Option, None, Some, Result, Ok, Err}
 use Prim.Native.Nat.{ℕ, ◌≤◌}
 use native.Mathlib.Omega.{arith}
 use lib.ListN.{length}
@@ -22,13 +22,13 @@ use Rattle.decimals.specs.Writing.{written_length}
 use Rattle.report.specs.Refused.{refusal_few}
 use Rattle.clean_copy.specs.Answer.{answer_of}
 use Rattle.clean_copy.specs.Number.{copy_number_most}
-use Rattle.clean_copy.specs.declared.CopyAnswer.{CopyAnswer}
-use Rattle.clean_copy.specs.declared.CopyAnswer.TheVariants.{Length, Refused}
+use Rattle.verdicts.specs.Refusal.{number_of}
+use Rattle.verdicts.specs.declared.refusal.Refusal.{Refusal}
 use Rattle.sheetcopy.specs.Prints.{printed_copy, CopyWritten}
 
 module _ (moves labels : Text) where
   -- a moves text that passed is not over its byte limit
-  moves_few : first_of (sheet_tests moves labels) ≡ none → length moves ≤ sheet_bytes
+  moves_few : first_of (sheet_tests moves labels) ≡ None → length moves ≤ sheet_bytes
   unfolding NoneHolds sheet_tests
   moves_few e =
       let n = first_none (sheet_tests moves labels) e in
@@ -37,7 +37,7 @@ module _ (moves labels : Text) where
       (neither (out_of_bytes sheet_bytes moves) (out_of_bytes sheet_bytes labels) n.0).0).1
 
   module _ (before : List ℕ) (big : sheet_bytes ≤ length before) where
-    copy_few : first_of (sheet_tests moves labels) ≡ none → length (copy_text moves labels) ≤ length before
+    copy_few : first_of (sheet_tests moves labels) ≡ None → length (copy_text moves labels) ≤ length before
     copy_few e = omega (arith, copy_short moves labels e, moves_few e)
 
     -- the buffer is long enough for every copy, so that the refusal is that of the two texts
@@ -49,8 +49,8 @@ module _ (moves labels : Text) where
         last = test 17 (short_copy moves labels (length before)) ∷ []
 
         go : (o : Option ℕ) → first_of (sheet_tests moves labels) ≡ o → first_of (sheet_tests moves labels ++ last) ≡ o
-        go (some k) e = first_found (sheet_tests moves labels) last k e
-        go none e =
+        go (Some k) e = first_found (sheet_tests moves labels) last k e
+        go None e =
             first_after (sheet_tests moves labels) last (first_none (sheet_tests moves labels) e)
             ∙ rw (le-ltb (length before) (length (copy_text moves labels)) (copy_few e)) refl
 
@@ -59,19 +59,19 @@ module _ (moves labels : Text) where
     unfolding written_at
     shown text new h e = prefix_len_of_le _ _ (omega (arith, ap length e, written_length 0 text before (omega arith)))
 
-    module _ (a : CopyAnswer) (after : List ℕ) (c : Copied moves labels before (answer_of a) after) where
+    module _ (a : Result ℕ Refusal) (after : List ℕ) (c : Copied moves labels before (answer_of a) after) where
       -- copied
-      pub copy_printed : (n : ℕ) → a ≡ Length n → IsPrefixLen n after × CopyWritten moves labels before after (record { length = n; number = 0 })
+      pub copy_printed : (n : ℕ) → a ≡ Ok n → IsPrefixLen n after × CopyWritten moves labels before after (record { length = n; refusal = None })
       unfolding Copied CopiedBy printed_copy
       copy_printed n e = go (first_of (sheet_tests moves labels)) refl (rw by_texts at c)
         where
           go : (o : Option ℕ) → first_of (sheet_tests moves labels) ≡ o → CopiedBy o (copy_text moves labels) before (answer_of a) after
-              → IsPrefixLen n after × CopyWritten moves labels before after (record { length = n; number = 0 })
-          go (some k) q t =
+              → IsPrefixLen n after × CopyWritten moves labels before after (record { length = n; refusal = None })
+          go (Some k) q t =
               let d : copied n ≡ copy_refused k = rw e at t.0 in
               let z : ◌≡◌ {A = ℕ} 0 1 = cc in
               absurd (omega arith)
-          go none q t =
+          go None q t =
               let d : copied n ≡ copied (length (copy_text moves labels)) = rw e at t.0 in
               let m : n ≡ length (copy_text moves labels) = cc in (
                 rw m (shown (copy_text moves labels) after (copy_few q) t.1),
@@ -79,33 +79,37 @@ module _ (moves labels : Text) where
               )
 
       -- refused: the number is that of the texts, and the buffer is as it was
-      known : (k : ℕ) → a ≡ Refused k → (first_of (sheet_tests moves labels) ≡ some k) × (after ≡ before)
+      known : (k : Refusal) → a ≡ Err k → (first_of (sheet_tests moves labels) ≡ Some (number_of k)) × (after ≡ before)
       unfolding Copied CopiedBy
       known k e = go (first_of (sheet_tests moves labels)) refl (rw by_texts at c)
         where
           go : (o : Option ℕ) → first_of (sheet_tests moves labels) ≡ o → CopiedBy o (copy_text moves labels) before (answer_of a) after
-              → (first_of (sheet_tests moves labels) ≡ some k) × (after ≡ before)
-          go (some j) q t =
-              let d : copy_refused k ≡ copy_refused j = rw e at t.0 in
-              let m : k ≡ j = cc in
+              → (first_of (sheet_tests moves labels) ≡ Some (number_of k)) × (after ≡ before)
+          go (Some j) q t =
+              let d : copy_refused (number_of k) ≡ copy_refused j = rw e at t.0 in
+              let m : number_of k ≡ j = cc in
               (rw m q, t.1)
-          go none q t =
-              let d : copy_refused k ≡ copied (length (copy_text moves labels)) = rw e at t.0 in
+          go None q t =
+              let d : copy_refused (number_of k) ≡ copied (length (copy_text moves labels)) = rw e at t.0 in
               let z : ◌≡◌ {A = ℕ} 0 1 = cc in
               absurd (omega arith)
 
-      text_few : (k : ℕ) → a ≡ Refused k → length (refusal_text k) ≤ length before
-      text_few k e =
-          omega (arith, refusal_few k (omega (arith, copy_number_most moves labels (length before) k (by_texts ∙ (known k e).0))))
+      module _ {number : ℕ} (k : Refusal) (e : a ≡ Err k) (m : number ≡ number_of k) where
+        refused_is : first_of (sheet_tests moves labels) ≡ Some number
+        refused_is = rw m (known k e).0
 
-      pub refusal_room : (k : ℕ) → a ≡ Refused k → Room 0 (refusal_text k) after
-      refusal_room k e = omega (arith, text_few k e, ap length (known k e).1)
+        text_few : length (refusal_text number) ≤ length before
+        text_few = omega (arith, refusal_few number (omega (arith, copy_number_most moves labels (length before) number (by_texts ∙ refused_is))))
 
-      pub refusal_printed : (k : ℕ) → a ≡ Refused k → {r : ℕ} {new : List ℕ} → Wrote 0 (refusal_text k) after new r
-          → IsPrefixLen r new × CopyWritten moves labels before new (record { length = r; number = k })
-      unfolding printed_copy written_at
-      refusal_printed k e {r} {new} w =
-          let m : r ≡ length (refusal_text k) = w.after ∙ omega arith in
-          let q : first_of (sheet_tests moves labels) ≡ some k = (known k e).0 in
-          let b : new ≡ written (refusal_text k) before = w.holds ∙ rw (known k e).1 refl in
-          (rw m (shown (refusal_text k) new (text_few k e) b), record { count = rw q m; number = rw q refl; buffer = rw q b })
+        pub refusal_room : Room 0 (refusal_text number) after
+        refusal_room = omega (arith, text_few, ap length (known k e).1)
+
+        pub refusal_printed : {r : ℕ} {new : List ℕ} → Wrote 0 (refusal_text number) after new r
+            → IsPrefixLen r new × CopyWritten moves labels before new (record { length = r; refusal = Some k })
+        unfolding printed_copy written_at
+        refusal_printed {r} {new} w =
+            let n : r ≡ length (refusal_text number) = w.after ∙ omega arith in
+            let b : new ≡ written (refusal_text number) before = w.holds ∙ rw (known k e).1 refl in (
+              rw n (shown (refusal_text number) new text_few b),
+              record { count = rw refused_is n; number = rw (refused_is, m) refl; buffer = rw refused_is b },
+            )

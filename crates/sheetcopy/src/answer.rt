@@ -4,7 +4,6 @@ ghost use Rattle.csl.specs.Limits.{sheet_bytes};
 ghost use Rattle.console.specs.Counts.{IsPrefixLen};
 ghost use Rattle.sheetcopy.specs.Prints.{CopyWritten};
 
-use clean_copy::CopyAnswer;
 use console::Written;
 
 // Writes what the program prints for two texts to the front of `out`. No copy is longer than the moves text that it is made of, so that none
@@ -17,13 +16,13 @@ pub fn write_copy(moves: &[u8], labels: &[u8], out: &mut [u8]) -> Written
     ensures written { CopyWritten moves.now labels.now out.old out.new result }
 {
     match clean_copy::copy(moves, labels, out) {
-        CopyAnswer::Length(length) => Written {
-            length: length,
-            number: 0,
+        Ok(length) => Written {
+            length,
+            refusal: None,
         },
-        CopyAnswer::Refused(number) => Written {
-            length: report::write_refusal(out, number),
-            number: number,
+        Err(refusal) => Written {
+            length: report::write_refusal(out, u64::from(refusal)),
+            refusal: Some(refusal),
         },
     }
 }

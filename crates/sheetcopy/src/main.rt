@@ -15,6 +15,5 @@ fn main(rt: HostRuntime) {
     let m = read_text(&rt, b"moves.txt", &mut moves);
     let l = read_text(&rt, b"labels.txt", &mut labels);
     let written = write_copy(&moves[..m], &labels[..l], &mut out);
-    let n = written.length;
-    print(&rt, b"sheetcopy", &out[..n], written.number);
+    print(&rt, b"sheetcopy", &out[..written.length], written.refusal);
 }

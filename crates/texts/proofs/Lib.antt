@@ -1,4 +1,5 @@
 -- Laws behind the proofs of `texts`.
+pub mod Same
 pub mod NumberLaw
 pub mod ScanLaw
 pub mod CutLaw

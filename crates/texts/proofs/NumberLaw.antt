@@ -9,10 +9,10 @@ use lib.Dec.{eqb, leb, ltb}
 use borrow.Author.Tests.{le-leb, lt-leb, lt-ltb, leb-true, not-false}
 use Rattle.csl.specs.Text.{Text, every}
 use Rattle.csl.specs.Number.{is_digit, is_number, zero_led}
-use Rattle.texts.specs.Digits.{digit_run, number_at, settled, NumberFits}
+use Rattle.texts.specs.Digits.{digit_run, number_at, settled, read, NumberFits}
 use Rattle.texts.specs.Counting.{digit_within, Counting, Counted, one_more, counted, fits}
-use Rattle.texts.specs.declared.digits.Num.{Num}
-use Rattle.texts.specs.declared.digits.Num.TheVariants.{Value, Bad}
+use Rattle.texts.specs.declared.digits.Numeral.{Numeral}
+use Rattle.std.specs.Prelude.{Option, None}
 
 run_digits : (s : Text) → every is_digit (digit_run s) ≡ true
 unfolding every digit_run
@@ -44,20 +44,20 @@ settled_is {s} most c h =
 settled_fits : (s : Text) (v n : ℕ) → v < 10000000000 → n ≤ length s → NumberFits (length s) (settled s v n)
 settled_fits s v n f h = go (leb 1 n) (not (ltb 1 n && eqb (get_or s 0 0) 48)) refl
   where
-    go : (p q : Bool) → leb 1 n ≡ p → NumberFits (length s) (cond (p && q) (Value v n) Bad)
+    go : (p q : Bool) → leb 1 n ≡ p → NumberFits (length s) (cond (p && q) (read v n) None)
     go true true e = (f, leb-true 1 n e, h)
     go true false e = omega arith
     go false q e = omega arith
 
 module _ {s : Text} {v n : ℕ} (most : ℕ) (c : Counting s v n) where
   -- no digit follows
-  pub number_ends : {r : Num} → is_digit (get_or s n 0) ≡ false → n ≤ length s → n ≤ most → most ≤ 10 → r ≡ settled s v n
+  pub number_ends : {r : Option Numeral} → is_digit (get_or s n 0) ≡ false → n ≤ length s → n ≤ most → most ≤ 10 → r ≡ settled s v n
       → (r ≡ number_at most s) × NumberFits (length s) r
   number_ends h l k m e =
       (e ∙ settled_is most (counted c h) k, rw e (settled_fits s v n (fits c 10 (omega arith)) l))
 
   -- a digit too many follows
-  pub number_long : is_digit (get_or s n 0) ≡ true → min (length s) most ≤ n → Bad ≡ number_at most s
+  pub number_long : is_digit (get_or s n 0) ≡ true → min (length s) most ≤ n → None ≡ number_at most s
   unfolding number_at is_number
   number_long h k =
       let m : most ≤ n = omega (arith, digit_within s n h) in

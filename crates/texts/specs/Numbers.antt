@@ -1,5 +1,5 @@
 -- The numbers of the line at the start of a text, field by field. Assumes nothing.
-use Rattle.std.specs.Prelude.{◌≡◌, refl, ℕ, suc, ◌+◌, ◌*◌, ◌-◌, ◌^◌, ◌≤◌, ◌<◌, Bool, true, false, cond, not, ◌&&◌, List, [], ◌∷◌, ◌++◌, length, drop, get_or, eqb, leb}
+use Rattle.std.specs.Prelude.{◌≡◌, refl, ℕ, suc, ◌+◌, ◌*◌, ◌-◌, ◌^◌, ◌≤◌, ◌<◌, Bool, true, false, cond, not, ◌&&◌, List, [], ◌∷◌, ◌++◌, length, drop, get_or, eqb, leb, Option, Some, None}
 use Rattle.std.proofs.Common.{sym, ap, ◌∙◌, arith, pow-suc, mul-le-mul_right, append-nil, drop-drop, leb-true, leb-false, eqb-true}
 use Rattle.std.proofs.Math.Nat.{pow-le-pow_right}
 use Rattle.std.proofs.Math.Bool.{and-false, and-true, and-eq-true_iff}
@@ -8,11 +8,10 @@ use Rattle.csl.specs.Text.{Text, every}
 use Rattle.csl.specs.Limits.{sheet_digits}
 use Rattle.csl.specs.Number.{is_digit, is_number, zero_led, value_from, value_of}
 use Rattle.csl.specs.Line.{line_feed, comma, ahead}
-use Rattle.texts.specs.Digits.{digit_run, number_at}
+use Rattle.texts.specs.Digits.{digit_run, number_at, read, read_once}
 use Rattle.texts.specs.Counting.{digit_range}
 use Rattle.texts.specs.Span.{span_of}
-use Rattle.texts.specs.declared.digits.Num.{Num}
-use Rattle.texts.specs.declared.digits.Num.TheVariants.{Value, Bad}
+use Rattle.texts.specs.declared.digits.Numeral.{Numeral}
 use Rattle.texts.specs.LineAt.{line_at, is_ended_at, fields_at, line_feed_lem, line_byte}
 use Rattle.texts.specs.LineAt.{ended_byte, span_byte, span_feed, fields_nil, fields_comma, fields_byte}
 use Rattle.texts.specs.FieldsPass.{fields_pass, pass_from, prepend, prepend_nothing, starts, starts_at, from_more, from_last}
@@ -92,9 +91,9 @@ unfolding fields_pass pass_from
 numbers_behind count t = rw (run_ended t, run_fields t)
 
 -- what a field's reading says of the rest
-abbrev pub then_in : (Text → Bool) → Text → Num → Bool
-then_in p t Bad = false
-then_in p t (Value v u) = p (drop u t)
+abbrev pub then_in : (Text → Bool) → Text → Option Numeral → Bool
+then_in p t None = false
+then_in p t (Some r) = p (drop r.used t)
 
 then_is : (end : ℕ) (p : Text → Bool) (t : Text)
     → is_number sheet_digits (digit_run t) && (starts end (behind t) && p (drop 1 (behind t))) ≡ then_in p t (field_at end t)
@@ -105,7 +104,7 @@ then_is end p t =
   where
     go : (x y z : Bool) → leb (length t) (length (digit_run t)) ≡ y → eqb (get_or t (length (digit_run t)) 0) end ≡ z
         → x && (cond y false z && p (drop (length (digit_run t) + 1) t))
-        ≡ then_in p t (ended_by end t (cond x (Value (value_of (digit_run t)) (length (digit_run t))) Bad))
+        ≡ then_in p t (ended_by end t (cond x (read (value_of (digit_run t)) (length (digit_run t))) None))
     go true true z e f = rw e
     go true false true e f = rw (e, f)
     go true false false e f = rw (e, f)
@@ -128,22 +127,22 @@ pub record Reading (end : ℕ) (t : Text) (v u : ℕ) : Type 0 where
   pub within : u ≤ length t
   pub end_there : starts end (behind t) ≡ true
 
-pub reading : (end : ℕ) (t : Text) (v u : ℕ) → field_at end t ≡ Value v u → Reading end t v u
+pub reading : (end : ℕ) (t : Text) (v u : ℕ) → field_at end t ≡ read v u → Reading end t v u
 unfolding field_at number_at
 reading end t v u h = go (is_number sheet_digits (digit_run t)) (leb (length t) (length (digit_run t))) (eqb (get_or t (length (digit_run t)) 0) end) refl refl refl h
   where
-    no : Bad ≡ Value v u → Reading end t v u
+    no : ◌≡◌ {A = Option Numeral} None (read v u) → Reading end t v u
     no q = let z : ◌≡◌ {A = ℕ} 0 1 = cc in absurd (omega arith)
 
     go : (x y z : Bool) → is_number sheet_digits (digit_run t) ≡ x → leb (length t) (length (digit_run t)) ≡ y
         → eqb (get_or t (length (digit_run t)) 0) end ≡ z
-        → ended_by end t (cond x (Value (value_of (digit_run t)) (length (digit_run t))) Bad) ≡ Value v u → Reading end t v u
+        → ended_by end t (cond x (read (value_of (digit_run t)) (length (digit_run t))) None) ≡ read v u → Reading end t v u
     go true true z d e f q = no (rw e at q)
     go true false true d e f q =
-        let r : Value (value_of (digit_run t)) (length (digit_run t) + 1) ≡ Value v u = rw (e, f) at q in
+        let r : read (value_of (digit_run t)) (length (digit_run t) + 1) ≡ read v u = rw (e, f) at q in
         let l : length (digit_run t) < length t = leb-false _ _ e in
-        let w : length (digit_run t) + 1 ≡ u = cc in
-        record { number = d; value = cc; used = w; within = omega arith; end_there = rw (starts_at end t (length (digit_run t)), e, f) }
+        let w = read_once r in
+        record { number = d; value = w.0; used = w.1; within = omega arith; end_there = rw (starts_at end t (length (digit_run t)), e, f) }
     go true false false d e f q = no (rw (e, f) at q)
     go false y z d e f q = no q
 
@@ -202,13 +201,13 @@ number_below d h =
     let f = number_facts sheet_digits d h in
     omega (arith, value_below 0 d f.0, pow-le-pow_right {n = 10} (omega arith) f.1)
 
-pub reading_below : (t : Text) (v n : ℕ) → number_at sheet_digits t ≡ Value v n → v < 1000000000
+pub reading_below : (t : Text) (v n : ℕ) → number_at sheet_digits t ≡ read v n → v < 1000000000
 unfolding number_at
 reading_below t v n h = go (is_number sheet_digits (digit_run t)) refl h
   where
-    go : (x : Bool) → is_number sheet_digits (digit_run t) ≡ x → cond x (Value (value_of (digit_run t)) (length (digit_run t))) Bad ≡ Value v n
+    go : (x : Bool) → is_number sheet_digits (digit_run t) ≡ x → cond x (read (value_of (digit_run t)) (length (digit_run t))) None ≡ read v n
         → v < 1000000000
-    go true e q = let w : value_of (digit_run t) ≡ v = cc in omega (arith, number_below (digit_run t) e)
+    go true e q = omega (arith, (read_once q).0, number_below (digit_run t) e)
     go false e q = let z : ◌≡◌ {A = ℕ} 0 1 = cc in absurd (omega arith)
 
 -- a field that passes is read, and what stands behind it passes
@@ -216,12 +215,12 @@ passed : (end : ℕ) (p : Text → Bool) (t : Text) {v u : ℕ} → then_in p t 
     → Reading end t v u × (p (drop u t) ≡ true)
 passed end p t {v} {u} h i j = go (field_at end t) refl h
   where
-    go : (f : Num) → field_at end t ≡ f → then_in p t f ≡ true → Reading end t v u × (p (drop u t) ≡ true)
-    go Bad e q = absurd (false≢true q)
-    go (Value x n) e q =
-        let r = reading end t x n e in
-        let a : x ≡ v = cc in
-        let b : n ≡ u = cc in
+    go : (f : Option Numeral) → field_at end t ≡ f → then_in p t f ≡ true → Reading end t v u × (p (drop u t) ≡ true)
+    go None e q = absurd (false≢true q)
+    go (Some f) e q =
+        let r = reading end t f.value f.used e in
+        let a : f.value ≡ v = omega (arith, r.value, i) in
+        let b : f.used ≡ u = omega (arith, r.used, j) in
         (rw (a, b) at r, rw b at q)
 
 -- the first of several numbers that pass, and the last

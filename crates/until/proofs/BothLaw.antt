@@ -50,9 +50,6 @@ like_on : {n : ℕ} {l x y : List ℕ} → Like n l x → length y ≡ length x 
 like_on c e h = record { same = e ∙ c.same; after = λ k b d. h k b d ∙ c.after k b d }
 
 module _ {mv l first second : List ℕ} {n q last : ℕ} (p : BothAsked mv l first second n q last) where
-  pub may_look : EndsAsked l first second n
-  may_look = p.read.ends
-
   module _ {x : List ℕ} (c : Like n l x) where
     rates_like : Rates mv x n q
     rates_like = rates_kept p.read.rates c.same (λ k a b. c.after k a (omega arith))
@@ -207,5 +204,3 @@ module _ {mv l first second : List ℕ} {n q last : ℕ} (p : BothAsked mv l fir
                 uppers = λ s h. f.uppers s h ∙ ap (pointed (verdicts first s) (verdicts second s)) (rw d at (upper_meant s h));
                 after = λ k h b. f.after k (omega arith) ∙ like_upper.after k h b;
               }
-
-pub ruleset both_laws = (may_look, may_lower, may_high, may_upper, may_point, is_both)

@@ -2,10 +2,8 @@
 use mathlib.Core.Path.{◌≡◌, refl, ap, ◌∙◌}
 use mathlib.Core.Bool.{Bool, true, false, cond, not, ◌||◌, and-true}
 use mathlib.Core.List.{List}
-use Prim.Native.Nat.{ℕ, ◌+◌, ◌*◌, ◌≤◌, ◌<◌}
-use native.Mathlib.Omega.{arith}
+use Prim.Native.Nat.{ℕ, ◌+◌, ◌*◌, ◌<◌}
 use lib.Dec.{eqb}
-use Rattle.csl.specs.Limits.{billion}
 use Rattle.csl.specs.Verdicts.{No}
 use Rattle.csl.specs.Laws.Decided.{all_decided}
 use Rattle.csl.proofs.Laws.Decided.{decided_all}
@@ -16,15 +14,9 @@ use Rattle.vectors.specs.Places.{at}
 use Rattle.phase.specs.Load.{load_depth}
 use Rattle.phase.specs.Value.{held_of}
 use Rattle.until.specs.Reading.{verdicts, read_as, end_of}
-use Rattle.until.specs.Asked.{RowAsked, Restricted, start_gap, end_by, PhaseAsked, phase_end, Phased, EarlierAsked, started_value, Earlier}
+use Rattle.until.specs.Asked.{Restricted, start_gap, end_by, phase_end, Phased, EarlierAsked, started_value, Earlier}
 use Rattle.until.proofs.GapLaw.{gap_same}
 use Rattle.until.proofs.FromLaw.{end_from, by_load}
-use Rattle.until.proofs.PhaseLaw.{may_write, may_start}
-
--- an end or 0 is no more than the end may be
-kept_small : (b : Bool) (x : ℕ) → x ≤ billion → cond b x 0 ≤ billion
-kept_small true x h = h
-kept_small false x h = omega arith
 
 -- where a state is no goal, its value is held where the first operand fails
 held_first : (b x : Bool) → (read_as b No || not (x || read_as b No)) ≡ not x
@@ -34,25 +26,13 @@ held_first false true = refl
 held_first false false = refl
 
 module _ {mv l first none : List ℕ} {n q t : ℕ} (p : EarlierAsked mv l first none n q t) where
-  pub may_restrict : RowAsked l first n
-  may_restrict = may_write p.prepared p.in_first
-
   none_is : (g : ℕ) → g < n → verdicts none g ≡ No
   none_is g h = ap verdict_at (p.no_goal g h)
-
-  was_small : (b : Bool) (g : ℕ) → g < n → end_of b l n g ≤ billion
-  was_small true g h = p.uppers g h
-  was_small false g h = p.lowers g h
 
   module _ {x : List ℕ} (s : Restricted first n l x) where
     end_is : (b : Bool) (g : ℕ) → g < n → end_of b x n g ≡ cond (read_as b (verdicts first g)) (end_of b l n g) 0
     end_is true g h = s.uppers g h
     end_is false g h = s.lowers g h
-
-    pub may_phase : PhaseAsked mv x first none n q t
-    may_phase =
-        may_start p.prepared p.load p.in_first p.in_none s
-        (λ b g h. rw (end_is b g h) (kept_small (read_as b (verdicts first g)) (end_of b l n g) (was_small b g h)))
 
     -- a row without a goal is decided
     gap_is : start_gap x first none n ≡ earlier_gap n (verdicts first) (at l) (λ i. at l (n + i))
@@ -88,5 +68,3 @@ module _ {mv l first none : List ℕ} {n q t : ℕ} (p : EarlierAsked mv l first
             after = λ k h. u.ends.after k h ∙ s.after k h;
           };
         }
-
-pub ruleset earlier_laws = (may_restrict, may_phase, is_earlier)

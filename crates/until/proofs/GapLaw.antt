@@ -3,23 +3,24 @@ use mathlib.Core.Path.{◌≡◌, refl, ap, ◌∙◌}
 use mathlib.Core.Bool.{Bool, true, false, false≢true, and-false, and-eq-true_iff}
 use mathlib.Core.List.{List}
 use mathlib.Core.Logic.{⊎_elim}
-use Prim.Native.Nat.{ℕ, zero, suc, ◌+◌, ◌*◌, ◌-◌, ◌≤◌, ◌<◌, max}
+use Prim.Native.Nat.{ℕ, zero, suc, ◌+◌, ◌-◌, ◌≤◌, ◌<◌, max}
 use native.Mathlib.Omega.{arith}
 use native.Mathlib.Nat.{le-suc_iff}
 use native.Mathlib.Numerals.{add-one}
 use lib.Dec.{leb}
-use borrow.Author.Tests.{le-leb, lt-leb, ne_eqb}
+use borrow.Author.Tests.{ne_eqb}
+use Rattle.std.proofs.lemmas.Grind.{common_steps}
+use Rattle.std.specs.Ordering.{ord_max, nat_cmp}
 use Rattle.csl.specs.Chain.{greatest}
 use Rattle.csl.specs.Verdicts.{Decided}
 use Rattle.csl.specs.Laws.Decided.{all_decided}
 use Rattle.csl.proofs.Laws.Decided.{all_decided_lem, decided_all}
 use Rattle.numbers.specs.Sum.{greatest_cong, greatest_most}
-use Rattle.bounds.specs.Unit.{unit}
 use Rattle.bounds.specs.StepValues.{most_gap, gap_of}
 use Rattle.bounds.proofs.StepValues.{verdict_at}
 use Rattle.vectors.specs.Places.{at}
 use Rattle.until.specs.Reading.{verdicts}
-use Rattle.until.specs.Asked.{EndsAsked, start_gap, error_of}
+use Rattle.until.specs.Asked.{start_gap}
 
 -- a byte is decided where it is 0 or 1
 small_decided : (b : ℕ) → b ≤ 1 → Decided (verdict_at b)
@@ -40,23 +41,19 @@ row_open row n s h k = by (all_decided n (verdicts row)) refl
     by true e = absurd (omega (arith, decided_small (at row s) (all_decided_lem n (verdicts row) e s h)))
     by false e = e
 
-pub record Inv (l first second : List ℕ) (n gap s : ℕ) : Type 0 where
-  pub asked : EndsAsked l first second n
-  pub within : s ≤ n
+-- the bytes before s are decided, and the gap is the greatest there
+pub record GapTo (l first second : List ℕ) (n gap s : ℕ) : Type 0 where
   pub by_first : (k : ℕ) → k < s → Decided (verdicts first k)
   pub by_second : (k : ℕ) → k < s → Decided (verdicts second k)
   pub so_far : gap ≡ greatest (λ k. at l (n + k) - at l k) s
 
-pub start : {l first second : List ℕ} {n : ℕ} → EndsAsked l first second n → Inv l first second n 0 0
+pub start : (l first second : List ℕ) (n : ℕ) → GapTo l first second n 0 0
 unfolding greatest
-start p =
-    record {
-      asked = p;
-      within = omega arith;
-      by_first = λ k h. absurd (omega arith);
-      by_second = λ k h. absurd (omega arith);
-      so_far = refl;
-    }
+start l first second n = record { by_first = λ k h. absurd (omega arith); by_second = λ k h. absurd (omega arith); so_far = refl }
+
+-- the library's greater of two numbers
+pub max_is : (a b : ℕ) → ord_max nat_cmp a b ≡ max a b
+max_is a b = grind (arith, common_steps)
 
 -- one decided byte more
 decided_more : (row : List ℕ) (s : ℕ) → ((k : ℕ) → k < s → Decided (verdicts row k)) → at row s ≤ 1
@@ -64,18 +61,18 @@ decided_more : (row : List ℕ) (s : ℕ) → ((k : ℕ) → k < s → Decided (
 decided_more row s old h k c =
     ⊎_elim (old k) (λ (i : suc k ≡ suc s). let z : k ≡ s = omega arith in rw z (small_decided (at row s) h)) (le-suc_iff.0 (rw add-one at c))
 
-module _ {l first second : List ℕ} {n gap s : ℕ} (v : Inv l first second n gap s) (h : s < n) where
-  pub turn : (r : ℕ) → at first s ≤ 1 → at second s ≤ 1 → r ≡ max gap (at l (n + s) - at l s) → Inv l first second n r (s + 1)
-  unfolding greatest
-  turn r a b e =
-      record {
-        asked = v.asked;
-        within = omega arith;
-        by_first = decided_more first s v.by_first a;
-        by_second = decided_more second s v.by_second b;
-        so_far = rw (add-one s, ← v.so_far) e;
-      }
+pub turn : {l first second : List ℕ} {n gap s : ℕ} → GapTo l first second n gap s → (r : ℕ) → at first s ≤ 1 → at second s ≤ 1
+    → r ≡ max gap (at l (n + s) - at l s) → GapTo l first second n r (s + 1)
+unfolding greatest
+turn {first = first} {second = second} {s = s} v r a b e =
+    record {
+      by_first = decided_more first s v.by_first a;
+      by_second = decided_more second s v.by_second b;
+      so_far = rw (add-one s, ← v.so_far) e;
+    }
 
+-- a byte that is not decided
+module _ (l first second : List ℕ) {n s : ℕ} (h : s < n) where
   pub first_open : 1 < at first s → suc most_gap ≡ start_gap l first second n
   unfolding gap_of
   first_open a = rw (row_open first n s h a) refl
@@ -84,10 +81,10 @@ module _ {l first second : List ℕ} {n gap s : ℕ} (v : Inv l first second n g
   unfolding gap_of
   second_open a = rw (row_open second n s h a, and-false (all_decided n (verdicts first))) refl
 
-pub finish : {l first second : List ℕ} {n gap s : ℕ} → Inv l first second n gap s → n ≤ s → gap ≡ start_gap l first second n
+pub finish : {l first second : List ℕ} {n gap s : ℕ} → GapTo l first second n gap s → s ≤ n → n ≤ s → gap ≡ start_gap l first second n
 unfolding gap_of
-finish {l = l} {first = first} {second = second} {n = n} {s = s} v h =
-    let z : s ≡ n = omega (arith, v.within) in
+finish {l = l} {first = first} {second = second} {n = n} {s = s} v b h =
+    let z : s ≡ n = omega arith in
     rw (
       decided_all n (verdicts first) (λ k c. v.by_first k (omega arith)),
       decided_all n (verdicts second) (λ k c. v.by_second k (omega arith)),
@@ -95,15 +92,6 @@ finish {l = l} {first = first} {second = second} {n = n} {s = s} v h =
     (v.so_far ∙ ap (greatest (λ k. at l (n + k) - at l k)) z)
 
 pub ruleset gap_laws = (start, turn, first_open, second_open, finish)
-
--- the error that a gap stands for
-pub error_near : (gap : ℕ) → gap ≤ most_gap → unit * gap ≡ error_of gap
-error_near gap h = rw (le-leb gap most_gap h) refl
-
-pub error_far : (gap : ℕ) → most_gap < gap → 0 ≡ error_of gap
-error_far gap h = rw (lt-leb gap most_gap h) refl
-
-pub ruleset error_laws = (error_near, error_far)
 
 -- starts that are the same have one gap
 pub gap_same : (d d' : Bool) (lower upper lower' upper' : ℕ → ℕ) (n : ℕ) → d ≡ d' → ((s : ℕ) → s < n → lower s ≡ lower' s)

@@ -5,11 +5,9 @@ pub mod RunLaw
 pub mod ReadLaw
 pub mod GapLaw
 pub mod PointLaw
-pub mod StillLaw
 pub mod RestrictLaw
 pub mod BothLaw
 pub mod FromLaw
 pub mod SummedLaw
-pub mod PhaseLaw
 pub mod UntilLaw
 pub mod EarlierLaw

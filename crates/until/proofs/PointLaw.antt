@@ -39,4 +39,4 @@ module _ {l₀ l first second : List ℕ} {n s : ℕ} (p : EndsAsked l₀ first 
       → Inv l₀ (set (set l s i.lower) (n + s) i.upper) first second n (s + 1)
   turn i a b e f k = ends.turn v h i.lower i.upper (rw (k, e, f, lower_is) refl) (rw (k, e, f, upper_is) refl)
 
-pub ruleset point_laws = (ends.ends_laws, may_cast, may_cast_upper)
+pub ruleset point_laws = (may_cast, may_cast_upper)

@@ -16,7 +16,7 @@ use Rattle.bounds.proofs.Ends.{last_step_within, gathered_most, total_most, tota
 use Rattle.bounds.specs.Upper.{left_end}
 use Rattle.weights.specs.Asked.{most_steps}
 use Rattle.vectors.specs.Places.{at, weights_from, weight_at, total_in}
-use Rattle.vectors.specs.Prepared.{rates_kept, WorkAsked, Cleared}
+use Rattle.vectors.specs.Prepared.{rates_kept, Cleared}
 use Rattle.phase.specs.Value.{held_of}
 use Rattle.phase.specs.Load.{Weighed, LightAsked}
 use Rattle.phase.specs.Sums.{sum_gathered, whole_gatherable}
@@ -98,9 +98,6 @@ module _ {mv l first second : List ℕ} {n q a depth : ℕ} (p : SummedAsked mv 
           }
 
       module _ {x : List ℕ} (f : Both mv first second n q last w x) where
-        pub may_clear : WorkAsked x n
-        may_clear = record { states = p.weigh.states; long = omega (arith, f.same, u.same, p.weigh.long) }
-
         module _ {y : List ℕ} (c : Cleared n x y) where
           -- every word behind the ends is as it was
           kept : (k : ℕ) → 2 * n ≤ k → at y k ≡ at l k
@@ -150,4 +147,4 @@ module _ {mv l first second : List ℕ} {n q a depth : ℕ} (p : SummedAsked mv 
                 after = kept;
               }
 
-pub ruleset summed_laws = (may_look, may_both, may_clear, is_summed)
+pub ruleset summed_laws = (may_look, may_both, is_summed)

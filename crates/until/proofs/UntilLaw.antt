@@ -11,16 +11,14 @@ use Rattle.csl.specs.Phase.{bit}
 use Rattle.csl.specs.Report as report
 use Rattle.csl.specs.Verdicts.{Verdict, No, Yes, Undecided, as_no, as_yes}
 use Rattle.csl.proofs.Laws.Verdicts.{decided_same}
-use Rattle.bounds.proofs.Reading.{bit_most}
 use Rattle.bounds.specs.StepValues.{most_gap, pointed}
 use Rattle.phase.specs.Load.{load_depth}
 use Rattle.phase.specs.Value.{held_of, start_of, value_of}
 use Rattle.phase.specs.Bound.{run_cong}
 use Rattle.until.specs.Reading.{verdicts, read_as, read_phase, low_phase, high_phase, end_of}
-use Rattle.until.specs.Asked.{RowAsked, Still, start_gap, end_by, PhaseAsked, phase_end, Phased, UntilAsked, Until}
+use Rattle.until.specs.Asked.{Still, start_gap, end_by, phase_end, Phased, UntilAsked, Until}
 use Rattle.until.proofs.GapLaw.{first_decided, second_decided, near_none}
 use Rattle.until.proofs.FromLaw.{end_from, near_same, by_load}
-use Rattle.until.proofs.PhaseLaw.{may_write, may_start}
 
 -- the ends that a verdict stands for
 lower_bit : (w : Verdict) → report.lower_of w ≡ billion * bit (as_no w)
@@ -44,17 +42,10 @@ bit_left b Undecided No = refl
 bit_left b v Undecided = refl
 
 module _ {mv l first second : List ℕ} {n q t : ℕ} (p : UntilAsked mv l first second n q t) where
-  pub may_still : RowAsked l second n
-  may_still = may_write p.prepared p.in_second
-
   module _ {x : List ℕ} (s : Still second n l x) where
     end_is : (b : Bool) (g : ℕ) → g < n → end_of b x n g ≡ billion * bit (read_as b (verdicts second g))
     end_is true g h = s.uppers g h ∙ upper_bit (verdicts second g)
     end_is false g h = s.lowers g h ∙ lower_bit (verdicts second g)
-
-    pub may_phase : PhaseAsked mv x first second n q t
-    may_phase =
-        may_start p.prepared p.load p.in_first p.in_second s (λ b g h. omega (arith, end_is b g h, bit_most (read_as b (verdicts second g))))
 
     -- one end of the phase is until's
     until_end : (b : Bool) (g : ℕ) → g < n
@@ -97,5 +88,3 @@ module _ {mv l first second : List ℕ} {n q t : ℕ} (p : UntilAsked mv l first
             after = λ k h. u.ends.after k h ∙ s.after k h;
           };
         }
-
-pub ruleset until_laws = (may_still, may_phase, is_until)

@@ -4,6 +4,7 @@ ghost use Rattle.bounds.specs.StepValues.{pointed as pointedEnd};
 ghost use Rattle.verdicts.specs.Paper.{verdict_of, interval};
 ghost use Rattle.until.specs.Asked.{EndsAsked, Pointed, RowAsked, Still, Restricted};
 
+use crate::given::Operands;
 use verdicts::{Interval, Verdict};
 
 // The interval at a state whose operands have these verdicts: fixed where the second is yes or both are no, else from lower to upper.
@@ -12,30 +13,24 @@ fn pointed(first: Verdict, second: Verdict, lower: u32, upper: u32) -> Interval
         (pointedEnd (verdict_of first) (verdict_of second) lower)
         (pointedEnd (verdict_of first) (verdict_of second) upper) }
 {
-    match second {
-        Verdict::Yes => Interval::CERTAIN,
-        Verdict::No => match first {
-            Verdict::No => Interval::IMPOSSIBLE,
-            Verdict::Yes => Interval::new(lower, upper),
-            Verdict::Undecided => Interval::new(lower, upper),
-        },
-        Verdict::Undecided => Interval::new(lower, upper),
+    match (first, second) {
+        (_, Verdict::Yes) => Interval::CERTAIN,
+        (Verdict::No, Verdict::No) => Interval::IMPOSSIBLE,
+        _ => Interval::new(lower, upper),
     }
 }
 
 // The interval of each state, from the two ends that its sums give.
-pub fn point(words: &mut [u64], first: &[u8], second: &[u8], n: usize)
-    requires { EndsAsked words.old first.now second.now n }
-    ensures { Pointed first.now second.now n words.old words.new }
+pub fn point(words: &mut [u64], operands: Operands, n: usize)
+    requires { EndsAsked words.old operands.first.now operands.second.now n }
+    ensures { Pointed operands.entry.first.now operands.entry.second.now n words.old words.new }
 {
-    let mut s: usize = 0;
-    while s < n {
-        let by_first = Verdict::from_byte(first[s]);
-        let by_second = Verdict::from_byte(second[s]);
+    for s in 0..n {
+        let by_first = Verdict::from(operands.first[s]);
+        let by_second = Verdict::from(operands.second[s]);
         let ends = pointed(by_first, by_second, words[s] as u32, words[n + s] as u32);
         words[s] = ends.lower as u64;
         words[n + s] = ends.upper as u64;
-        s += 1;
     }
 }
 
@@ -45,12 +40,10 @@ pub fn still(words: &mut [u64], second: &[u8], n: usize)
     requires { RowAsked words.old second.now n }
     ensures { Still second.now n words.old words.new }
 {
-    let mut s: usize = 0;
-    while s < n {
+    for s in 0..n {
         let ends = Interval::of_byte(second[s]);
         words[s] = ends.lower as u64;
         words[n + s] = ends.upper as u64;
-        s += 1;
     }
 }
 
@@ -67,10 +60,8 @@ pub fn restrict(words: &mut [u64], first: &[u8], n: usize)
     requires { RowAsked words.old first.now n }
     ensures { Restricted first.now n words.old words.new }
 {
-    let mut s: usize = 0;
-    while s < n {
+    for s in 0..n {
         words[s] = kept(verdicts::holds(first[s], false), words[s]);
         words[n + s] = kept(verdicts::holds(first[s], true), words[n + s]);
-        s += 1;
     }
 }

@@ -1,9 +1,9 @@
 -- Where each thing stands in the lent vector words, with n states: "vector words (64 bits) of 10 × n + 512". Assumes nothing.
-use Rattle.std.specs.Prelude.{◌≡◌, Bool, List, ℕ, ◌+◌, ◌*◌, ◌≤◌, ◌<◌, ltb, length}
+use Rattle.std.specs.Prelude.{◌≡◌, refl, Bool, List, ℕ, ◌+◌, ◌*◌, ◌≤◌, ◌<◌, ltb, length}
 use Rattle.csl.specs.Lent.{needed}
 pub use Rattle.numbers.specs.Filled.{at}
 use Rattle.rate_matrix.specs.Halves.{own_rate, row_end}
-use Rattle.vectors.specs.declared.Places.{Places}
+use Rattle.vectors.specs.declared.TheConstants.{VALUES, NEXT, SUMS, STAYS, EXITS, ENDS, OWNS, WEIGHTS}
 
 -- the two ends of every state: the lower ones from 0 on, then the upper ones
 abbrev pub uppers_from : ℕ → ℕ
@@ -98,12 +98,16 @@ pub record EndsStored (lower upper : ℕ → ℕ) (n : ℕ) (old new : List ℕ)
   pub after : (k : ℕ) → values_from n ≤ k → at new k ≡ at old k
 
 -- the columns of the code begin so
-pub record Placed (n : ℕ) (r : Places) : Type 0 where
-  pub values : r.values ≡ values_from n
-  pub next : r.next ≡ next_from n
-  pub sums : r.sums ≡ sums_from n
-  pub stays : r.stays ≡ stays_from n
-  pub exits : r.exits ≡ exits_from n
-  pub ends : r.ends ≡ ends_from n
-  pub owns : r.owns ≡ owns_from n
-  pub weights : r.weights ≡ weights_from n
+pub record Placed (n : ℕ) : Type 0 where
+  pub values : VALUES * n ≡ values_from n
+  pub next : NEXT * n ≡ next_from n
+  pub sums : SUMS * n ≡ sums_from n
+  pub stays : STAYS * n ≡ stays_from n
+  pub exits : EXITS * n ≡ exits_from n
+  pub ends : ENDS * n ≡ ends_from n
+  pub owns : OWNS * n ≡ owns_from n
+  pub weights : WEIGHTS * n ≡ weights_from n
+
+pub all_placed : (n : ℕ) → Placed n
+all_placed n =
+    record { values = refl; next = refl; sums = refl; stays = refl; exits = refl; ends = refl; owns = refl; weights = refl }

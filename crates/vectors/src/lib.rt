@@ -8,10 +8,10 @@
 
 ghost use Rattle.std.specs.Prelude.{◌≡◌, ◌≤◌, length};
 ghost use Rattle.csl.specs.Limits.{most_states};
-ghost use Rattle.vectors.specs.Places.{Placed, total_at, number_at, marks_from, vector_length};
+ghost use Rattle.vectors.specs.Places.{total_at, number_at, marks_from, vector_length};
 ghost use Rattle.vectors.specs.Prepared.{PrepareAsked, Laid, Cleared, WorkAsked};
 
-// The columns between the ends, which are the first two, and the marks.
+// The columns between the ends, which are the first two, and the marks. That they begin where specs/Places.antt has them is shown there.
 pub const VALUES: usize = 2;
 
 pub const NEXT: usize = 3;
@@ -31,37 +31,8 @@ pub const WEIGHTS: usize = 9;
 // The marks end the words.
 const MARKS: usize = limits::VECTOR_PLACES - 1;
 
-// Where each column begins.
-#[derive(Clone, Copy)]
-struct Places {
-    values: usize,
-    next: usize,
-    sums: usize,
-    stays: usize,
-    exits: usize,
-    ends: usize,
-    owns: usize,
-    weights: usize,
-}
-
-// The columns begin where specs/Places.antt has them. Nothing calls this: it is here to be proved.
-fn all_places(n: usize) -> Places
-    requires { n ≤ most_states }
-    ensures { Placed n result }
-{
-    Places {
-        values: VALUES * n,
-        next: NEXT * n,
-        sums: SUMS * n,
-        stays: STAYS * n,
-        exits: EXITS * n,
-        ends: ENDS * n,
-        owns: OWNS * n,
-        weights: WEIGHTS * n,
-    }
-}
-
-// Where the marks of the labels begin.
+// Where the marks of the labels begin. That n is at most 512 stands at each of these four: a type for n alone would be made and taken apart in every
+// crate above.
 pub fn marks(n: usize) -> usize
     requires { n ≤ most_states }
     ensures { result ≡ marks_from n }

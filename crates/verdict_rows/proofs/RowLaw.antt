@@ -1,39 +1,36 @@
--- Rows whose operands are rows, and a row that is judged. Assumes nothing.
-use mathlib.Core.Path.{◌≡◌, refl, ap, ◌∙◌}
-use mathlib.Core.List.{List}
-use Prim.Native.Nat.{ℕ, ◌+◌, ◌≤◌, ◌<◌}
-use native.Mathlib.Omega.{arith}
-use lib.ListN.{get_or, set}
-use Rattle.csl.specs.Limits.{billion}
-use Rattle.csl.specs.Formula.{Comparison}
-use Rattle.verdict_rows.specs.Byte.{negated_byte, joined_byte, told_byte}
-use Rattle.verdict_rows.specs.Row.{EndsIn}
-use Rattle.verdict_rows.specs.Filling.{Filling, filling_more, filling_kept}
+-- Rows whose bytes are set one by one, and a row each of whose bytes is looked at. Assumes nothing.
+use Rattle.std.proofs.Common.{◌≡◌, refl, ℕ, zero, suc, ◌+◌, ◌-◌, ◌≤◌, ◌<◌, List, ◌++◌, take, length, get_or, ap, sym, ◌∙◌, arith, add-one, length-append, get_or-append-add}
+use Rattle.std.proofs.lemmas.List.{get_or_append_left}
+use Rattle.std.proofs.lemmas.List.Folds.{list_all_more}
+use Rattle.std.specs.List.{list_all}
+use Rattle.csl.specs.Laws.Decided.{is_decided, all_decided}
+use Rattle.numbers.specs.Filled.{Table, table}
+use Rattle.verdicts.specs.Byte.{verdict_at, verdicts}
+use Rattle.verdict_rows.specs.Row.{RowBy}
 
--- the row that is filled is an operand too: its next byte is as it was
-module _ {n : ℕ} {old new : List ℕ} {s x : ℕ} where
-  pub negated_more : Filling (λ k. negated_byte (get_or old k 0)) n old new s → s < n → x ≡ negated_byte (get_or new s 0)
-      → Filling (λ k. negated_byte (get_or old k 0)) n old (set new s x) (s + 1)
-  negated_more v h e = filling_more v h (e ∙ ap negated_byte (filling_kept v s (omega arith)))
+-- a row is that of f, where f has all that may stand there
+pub row_set : {f : ℕ → ℕ} {R : ℕ → ℕ → ℕ → Type 0} {n : ℕ} {old new : List ℕ} → RowBy R n old new
+    → ((s : ℕ) → s < n → R s (get_or old s 0) (get_or new s 0) → get_or new s 0 ≡ f s) → Table f old new n
+row_set b h = table b.same (λ s i. h s i (b.each s i)) b.rest
 
-  pub joined_more : Filling (λ k. joined_byte (get_or old k 0) (get_or old (n + k) 0)) n old new s → s < n
-      → x ≡ joined_byte (get_or new s 0) (get_or new (n + s) 0)
-      → Filling (λ k. joined_byte (get_or old k 0) (get_or old (n + k) 0)) n old (set new s x) (s + 1)
-  joined_more v h e = filling_more v h (e ∙ rw (filling_kept v s (omega arith), filling_kept v (n + s) (omega arith)) refl)
+-- and so it is with the rest that was split from it
+pub front_set : {f : ℕ → ℕ} {R : ℕ → ℕ → ℕ → Type 0} {n : ℕ} {old front new : List ℕ} (rest : List ℕ) → RowBy R n front new → old ≡ front ++ rest
+    → length front ≡ n → ((s : ℕ) → s < n → get_or rest s 0 ≡ get_or old (n + s) 0 → R s (get_or old s 0) (get_or new s 0) → get_or new s 0 ≡ f s)
+    → Table f old (new ++ rest) n
+front_set {f} {R} {n} {old} {front} {new} rest b e l h =
+    let at_rest : (s : ℕ) → get_or rest s 0 ≡ get_or old (n + s) 0 = λ s. sym (rw (e, ← l) (get_or-append-add front rest s 0)) in
+    let at_front : (s : ℕ) → s < n → get_or old s 0 ≡ get_or front s 0 = λ s i. rw e (get_or_append_left front rest 0 s (omega arith)) in
+    table (omega (arith, length-append new rest, length-append front rest, ap length e, b.same))
+    (λ s i. get_or_append_left new rest 0 s (omega (arith, b.same)) ∙ h s i (at_rest s) (rw (at_front s i) (b.each s i)))
+    (λ k i.
+    let x : length new + (k - n) ≡ k = omega (arith, b.same) in
+    let y : n + (k - n) ≡ k = omega arith in
+    ap (λ j. get_or (new ++ rest) j 0) (sym x) ∙ get_or-append-add new rest (k - n) 0 ∙ at_rest (k - n) ∙ ap (λ j. get_or old j 0) y)
 
--- both ends of a state are ends
-module _ {n : ℕ} {words : List ℕ} {s : ℕ} (w : EndsIn n words) (h : s < n) where
-  pub lower_in : get_or words s 0 ≤ billion
-  lower_in = w.range s (omega arith)
-
-  pub upper_in : get_or words (n + s) 0 ≤ billion
-  upper_in = w.range (n + s) (omega arith)
-
--- the row behind the one that is filled is as it was
-pub told_more : (r : Comparison) (p : ℕ) {n : ℕ} {old new : List ℕ} {s x : ℕ} → Filling (λ k. told_byte r p (get_or old (n + k) 0)) n old new s → s < n
-    → x ≡ told_byte r p (get_or new (n + s) 0) → Filling (λ k. told_byte r p (get_or old (n + k) 0)) n old (set new s x) (s + 1)
-told_more r p {n = n} {s = s} v h e = filling_more v h (e ∙ ap (told_byte r p) (filling_kept v (n + s) (omega arith)))
-
--- a byte by way of another
-pub told_by : (r : Comparison) (p : ℕ) {b c x : ℕ} → b ≡ c → x ≡ told_byte r p b → x ≡ told_byte r p c
-told_by r p e h = h ∙ ap (told_byte r p) e
+-- each of the first n bytes says yes or no
+pub all_told : (row : List ℕ) (n : ℕ) → n ≤ length row → list_all (λ b. is_decided (verdict_at b)) (take n row) ≡ all_decided n (verdicts row)
+unfolding all_decided
+all_told row zero h = refl
+all_told row (suc n) h =
+    ap (λ k. list_all (λ b. is_decided (verdict_at b)) (take k row)) (sym (add-one n))
+    ∙ list_all_more (λ b. is_decided (verdict_at b)) row n 0 (omega arith) ∙ rw (all_told row n (omega arith)) refl

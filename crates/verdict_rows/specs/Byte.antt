@@ -1,5 +1,5 @@
 -- The byte of a verdict that follows from other bytes, or from words. Assumes nothing.
-use Rattle.std.specs.Prelude.{ℕ, ◌/◌, ◌%◌, ◌^◌, cond, eqb, ltb}
+use Rattle.std.specs.Prelude.{◌≡◌, refl, Bool, true, false, ℕ, ◌/◌, ◌%◌, ◌^◌, cond, eqb, ltb}
 use Rattle.csl.specs.Limits.{billion}
 use Rattle.csl.specs.Formula.{Comparison}
 use Rattle.csl.specs.Verdicts.{marked, negation, conjunction, judged, as_no}
@@ -30,3 +30,12 @@ told_byte r p b = verdict_byte (moves_verdict r p (as_no (verdict_at b)) (as_no 
 -- the byte that says so of a next move with these ends: possible with the threshold 0, certain with 1,000,000,000
 unfoldable pub next_byte : (p lower upper : ℕ) → ℕ
 next_byte p lower upper = verdict_byte (marked (cond (eqb p 0) (ltb 0 upper) (eqb lower billion)))
+
+-- which is read as it was meant
+pub next_told : (p lower upper : ℕ) → as_no (verdict_at (next_byte p lower upper)) ≡ cond (eqb p 0) (ltb 0 upper) (eqb lower billion)
+unfolding next_byte
+next_told p lower upper = told (cond (eqb p 0) (ltb 0 upper) (eqb lower billion))
+  where
+    told : (b : Bool) → as_no (verdict_at (verdict_byte (marked b))) ≡ b
+    told true = refl
+    told false = refl

@@ -1,4 +1,3 @@
--- Rows of verdict bytes, and how they are filled.
+-- Rows of verdict bytes, and the bytes in them.
 pub mod Byte
 pub mod Row
-pub mod Filling

@@ -10,8 +10,5 @@ pub fn length(n: usize, nodes: usize) -> usize
     requires { (n ≤ most_states) × (nodes ≤ most_nodes) }
     ensures { result ≡ rows_length n nodes }
 {
-    if nodes < MOST_ROWS {
-        return nodes * n;
-    }
-    MOST_ROWS * n
+    nodes.min(MOST_ROWS) * n
 }

@@ -3,9 +3,11 @@
 
 #![tactic(auto)]
 
+mod bound;
 mod byte;
 mod lent;
 mod row;
 
+pub use bound::Bound;
 pub use lent::length;
 pub use row::{all_decided, clear, fill_label, fill_yes, join, judge, negate, tell, tell_next};

@@ -1,8 +1,8 @@
-// What a job comes to.
-#[derive(Clone, Copy)]
-pub enum Answer {
-    // The report stands in the lent buffers; this is the depth in its lines.
-    Accepted(u64),
-    // The job is turned back with this number, and no buffer has changed.
-    Refused(u64),
+// What an accepted job answers with.
+#[derive(Clone, Copy, Debug, PartialEq, Eq)]
+pub struct Accepted {
+    // The depth in the lines of its report.
+    pub depth: u64,
+    // How many states the report has.
+    pub states: usize,
 }

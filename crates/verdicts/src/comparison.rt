@@ -1,5 +1,5 @@
 // The four comparisons of a `P` with its threshold.
-#[derive(Clone, Copy)]
+#[derive(Clone, Copy, Debug, PartialEq, Eq)]
 pub enum Comparison {
     Less,
     AtMost,

@@ -9,10 +9,10 @@ use crate::comparison::Comparison;
 use crate::verdict::Verdict;
 
 // Probability 1, in billionths.
-const ONE: u32 = limits::BILLION as u32;
+pub const ONE: u32 = limits::BILLION as u32;
 
 // The two ends.
-#[derive(Clone, Copy)]
+#[derive(Clone, Copy, Debug, PartialEq, Eq)]
 pub struct Interval {
     pub lower: u32,
     pub upper: u32,
@@ -38,22 +38,18 @@ impl Interval {
     pub fn new(lower: u32, upper: u32) -> Interval
         ensures { result ≡ interval lower upper }
     {
-        Interval {
-            lower: lower,
-            upper: upper,
-        }
+        Interval { lower, upper }
     }
 
     // The interval that a verdict byte alone stands for: a report's for an outermost node other than `P`, an until's at load 0.
+    // `Interval::from(byte)` would not say what the byte is.
     pub fn of_byte(byte: u8) -> Interval
         ensures { result ≡ interval (lower_of (verdict_at byte)) (upper_of (verdict_at byte)) }
     {
-        if byte == 0 {
-            Interval::IMPOSSIBLE
-        } else if byte == 1 {
-            Interval::CERTAIN
-        } else {
-            Interval::UNKNOWN
+        match byte {
+            0 => Interval::IMPOSSIBLE,
+            1 => Interval::CERTAIN,
+            _ => Interval::UNKNOWN,
         }
     }
 

@@ -4,10 +4,8 @@ ghost use Rattle.csl.specs.Laws.Ruling.{possible_verdict, certain_verdict, is_ze
 ghost use Rattle.verdicts.specs.Paper.{verdict_of, comparison_of};
 
 use crate::comparison::Comparison;
+use crate::interval::ONE;
 use crate::verdict::Verdict;
-
-// Probability 1, in billionths.
-const ONE: u32 = limits::BILLION as u32;
 
 // Whether a threshold is one of the two.
 pub fn zero_or_one(threshold: u32) -> bool
@@ -21,8 +19,8 @@ fn by_possible(comparison: Comparison, possible: bool) -> Verdict
     ensures { verdict_of result ≡ possible_verdict (comparison_of comparison) possible }
 {
     match comparison {
-        Comparison::More => Verdict::from_mark(possible),
-        Comparison::AtMost => Verdict::from_mark(possible).negate(),
+        Comparison::More => Verdict::from(possible),
+        Comparison::AtMost => Verdict::from(possible).negate(),
         Comparison::AtLeast => Verdict::Yes,
         Comparison::Less => Verdict::No,
     }
@@ -33,8 +31,8 @@ fn by_certain(comparison: Comparison, certain: bool) -> Verdict
     ensures { verdict_of result ≡ certain_verdict (comparison_of comparison) certain }
 {
     match comparison {
-        Comparison::AtLeast => Verdict::from_mark(certain),
-        Comparison::Less => Verdict::from_mark(certain).negate(),
+        Comparison::AtLeast => Verdict::from(certain),
+        Comparison::Less => Verdict::from(certain).negate(),
         Comparison::AtMost => Verdict::Yes,
         Comparison::More => Verdict::No,
     }

@@ -6,12 +6,12 @@ ghost use Rattle.csl.specs.Lent.{verdict_byte};
 ghost use Rattle.verdicts.specs.Paper.{verdict_of};
 ghost use Rattle.verdicts.specs.Byte.{verdict_at, read_as};
 
-// Yes, no or undecided.
-#[derive(Clone, Copy)]
+// Yes, no or undecided, each with the byte that stands for it.
+#[derive(Clone, Copy, Debug, PartialEq, Eq)]
 pub enum Verdict {
-    No,
-    Yes,
-    Undecided,
+    No = 0,
+    Yes = 1,
+    Undecided = 2,
 }
 
 impl Verdict {
@@ -30,46 +30,42 @@ impl Verdict {
     pub fn both(self, other: Verdict) -> Verdict
         ensures { verdict_of result ≡ conjunction (verdict_of self) (verdict_of other) }
     {
-        match self {
-            Verdict::No => Verdict::No,
-            Verdict::Yes => other,
-            Verdict::Undecided => match other {
-                Verdict::No => Verdict::No,
-                Verdict::Yes => Verdict::Undecided,
-                Verdict::Undecided => Verdict::Undecided,
-            },
+        match (self, other) {
+            (Verdict::No, _) | (_, Verdict::No) => Verdict::No,
+            (Verdict::Undecided, _) | (_, Verdict::Undecided) => Verdict::Undecided,
+            (Verdict::Yes, Verdict::Yes) => Verdict::Yes,
         }
     }
+}
+
+impl From<bool> for Verdict {
+    ghost from_gives = { λ mark verdict. verdict_of verdict ≡ marked mark };
 
     // Yes where a mark holds, else no.
-    pub fn from_mark(mark: bool) -> Verdict
-        ensures { verdict_of result ≡ marked mark }
-    {
+    fn from(mark: bool) -> Verdict {
         if mark { Verdict::Yes } else { Verdict::No }
     }
+}
 
-    // The byte that stands for the verdict in a lent buffer.
-    pub fn byte(self) -> u8
-        ensures { result ≡ verdict_byte (verdict_of self) }
-    {
-        match self {
-            Verdict::No => 0,
-            Verdict::Yes => 1,
-            Verdict::Undecided => 2,
-        }
-    }
+impl From<u8> for Verdict {
+    ghost from_gives = { λ byte verdict. verdict_of verdict ≡ verdict_at byte };
 
     // The verdict that a byte of a lent buffer stands for; a byte that stands for none counts as undecided.
-    pub fn from_byte(b: u8) -> Verdict
-        ensures { verdict_of result ≡ verdict_at b }
-    {
-        if b == 0 {
-            Verdict::No
-        } else if b == 1 {
-            Verdict::Yes
-        } else {
-            Verdict::Undecided
+    fn from(byte: u8) -> Verdict {
+        match byte {
+            0 => Verdict::No,
+            1 => Verdict::Yes,
+            _ => Verdict::Undecided,
         }
+    }
+}
+
+impl From<Verdict> for u8 {
+    ghost from_gives = { λ verdict byte. byte ≡ verdict_byte (verdict_of verdict) };
+
+    // The byte that stands for a verdict in a lent buffer.
+    fn from(verdict: Verdict) -> u8 {
+        verdict as u8
     }
 }
 

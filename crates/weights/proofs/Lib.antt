@@ -1,5 +1,4 @@
 -- Laws behind the proofs of `weights`.
-pub mod StepLaw
 pub mod AddedLaw
 pub mod OverLaw
 pub mod Span

@@ -24,13 +24,7 @@ module _ {g t : ℕ} (p : Over g t) where
   pub over_fits : Fits w64 (whole g t)
   over_fits = record { fits = lt_of_mul-lt-mul_right t (omega (arith, over_whole g t, p.fits)) }
 
-  pub high_fits : Fits w64 (g / t * scale)
-  high_fits = omega (arith, over_fits)
-
-  pub shared : Share (g % t) t
-  shared = record { less = mod-lt g p.some; divisor = p.divisor }
-
-pub ruleset over_laws = (over_is, over_fits, high_fits, shared)
+pub ruleset over_laws = (over_is, over_fits)
 
 -- the share in two digits
 abbrev digits : ℕ → ℕ → ℕ
@@ -49,14 +43,3 @@ module _ {rest t : ℕ} (p : Share rest t) where
       sym
       (div_is (digits rest t) (rest * scale) t (omega (arith, digits_whole))
       (omega (arith, digits_whole, mod-lt (rest * 256 % t * 256) some)))
-
-  pub share_fits : Fits w64 (digits rest t)
-  share_fits = record { fits = lt_of_mul-lt-mul_right t (omega (arith, digits_whole, p.less, p.divisor)) }
-
-  pub first_fits : Fits w64 (rest * 256 / t * 256)
-  first_fits = omega (arith, share_fits)
-
-  pub second_fits : Fits w64 (rest * 256 % t * 256)
-  second_fits = omega (arith, mod-lt (rest * 256) some, p.divisor)
-
-pub ruleset share_laws = (share_is, share_fits, first_fits, second_fits)

@@ -8,7 +8,7 @@ use native.Mathlib.Omega.{arith}
 use native.Mathlib.Nat.{eq-or-lt_of_le}
 use lib.ListN.{length, set, length-set}
 use lib.Seq.{get_or-set_same, get_or-set_other}
-use Rattle.numbers.specs.Filled.{at}
+use Rattle.numbers.specs.Filled.{at, Filled}
 
 pub record Span (f : ℕ → ℕ) (p : ℕ) (l₀ l : List ℕ) (i n : ℕ) : Type 0 where
   pub same : length l ≡ length l₀
@@ -28,4 +28,14 @@ span_more {f} {p} {l₀} {l} {i} {n} v t w h e =
           (eq-or-lt_of_le b);
       before = λ k b. get_or-set_other l (p + i) k v 0 (omega arith) ∙ t.before k (omega arith);
       after = λ k b. get_or-set_other l (p + i) k v 0 (omega arith) ∙ t.after k b;
+    }
+
+-- filled to the front
+pub span_done : {f : ℕ → ℕ} {p : ℕ} {l₀ l : List ℕ} {i n : ℕ} → Span f p l₀ l i n → i ≤ 0 → Filled f p n l₀ l
+span_done t h =
+    record {
+      same = t.same;
+      filled = λ k b. t.filled k (omega arith) b;
+      before = λ k b. t.before k (omega arith);
+      after = t.after;
     }

@@ -9,24 +9,7 @@ use Rattle.numbers.specs.Sum.{sum_cong}
 use Rattle.numbers.specs.Filled.{Filled}
 use Rattle.bounds.specs.Weight.{low, apart, low_most}
 use Rattle.bounds.specs.Ends.{total}
-use Rattle.weights.specs.Asked.{Rest, weighed, Total, Weigh}
-
-module _ {e w : List ℕ} {from m d a b : ℕ} (p : Weigh e from m d a b) (t : Filled (low a b m) from (m + 1) e w) where
-  pub may_rise : Rest w from m d a b
-  may_rise =
-      record {
-        half = record {
-          middle = p.half.middle;
-          room = omega (arith, t.same, p.half.room);
-          steps = p.half.steps;
-          load = p.half.load;
-          small = p.half.small;
-        };
-        deep = p.deep;
-        long = omega (arith, t.same, p.long);
-        limit = p.limit;
-        stand = t.filled;
-      }
+use Rattle.weights.specs.Asked.{weighed, Total, Weigh}
 
 module _ {e w x : List ℕ} {from m d a b : ℕ} (p : Weigh e from m d a b) (t : Filled (low a b m) from (m + 1) e w)
     (u : Filled (low a b m) from (d + 1) w x) where
@@ -54,4 +37,4 @@ module _ {e w x : List ℕ} {from m d a b : ℕ} (p : Weigh e from m d a b) (t :
       q ∙
       rw (sum_cong (weighed x from m) (λ k. low a b m k + apart m k) (d + 1) (λ k h. rw (u.filled k h) refl), u.filled d (omega arith), add-one) refl
 
-pub ruleset weigh_laws = (may_rise, may_total, is_table, is_total)
+pub ruleset weigh_laws = (is_table, is_total)

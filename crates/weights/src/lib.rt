@@ -27,6 +27,7 @@ fn after(w: u64, k: u64, a: u64, b: u64) -> u64
 }
 
 // A sum with a weight times a value added, rounded down. That the weight's high digit fits 32 bits makes its product a quick one.
+#[tactic(auto, using(crate::proofs::AddedLaw::part_digits))]
 pub fn added(sum: u64, w: u64, v: u64) -> u64
     requires { Adds sum w v }
     ensures { result ≡ sum + part w v }
@@ -36,12 +37,13 @@ pub fn added(sum: u64, w: u64, v: u64) -> u64
 }
 
 // What is left of a division by a total below this, times the scale, fits 64 bits.
-const NARROW: u64 = 281474976710656;
+const NARROW: u64 = 1 << 48;
 
 // Above it the scale is taken in two digits of this size.
 const DIGIT: u64 = 256;
 
 // What is left of a division by the total, times the scale, over the total.
+#[tactic(auto, using(crate::proofs::OverLaw::share_is))]
 fn share(rest: u64, t: u64) -> u64
     requires { Share rest t }
     ensures { result ≡ rest * scale / t }
@@ -54,6 +56,7 @@ fn share(rest: u64, t: u64) -> u64
 }
 
 // A sum over the total of the weights, in billionths, rounded down.
+#[tactic(auto, using(crate::proofs::OverLaw::over_laws))]
 pub fn over(g: u64, t: u64) -> u64
     requires { Over g t }
     ensures { result ≡ g * scale / t }
@@ -61,19 +64,12 @@ pub fn over(g: u64, t: u64) -> u64
     g / t * bounds::SCALE + share(g % t, t)
 }
 
-// How many steps lie between m and k.
-fn apart(m: usize, k: usize) -> usize
-    ensures { result ≡ m - k + (k - m) }
-{
-    if k < m { m - k } else { k - m }
-}
-
 // The weight w of step k, as much greater as it can be too low, with the largest weight at m.
 fn at_most(w: u64, m: usize, k: usize) -> u64
     requires { Slack w m k }
     ensures { result ≡ w + (m - k + (k - m)) }
 {
-    w + (apart(m, k) as u64)
+    w + m.abs_diff(k) as u64
 }
 
 // The weights of steps m down to 0, from a place of the words on.
@@ -82,42 +78,37 @@ fn falling(words: &mut [u64], from: usize, m: usize, a: u64, b: u64)
     ensures { Filled (low a b m) from (m + 1) words.old words.new }
 {
     words[from + m] = bounds::PEAK;
-    let mut k = m;
-    while 0 < k {
-        let n = k - 1;
-        words[from + n] = before(words[from + k], k as u64, a, b);
-        k = n;
+    for k in (0..m).rev() {
+        words[from + k] = before(words[from + k + 1], (k + 1) as u64, a, b);
     }
 }
 
 // The weights of the steps after m, through d.
+// The numbers stay apart: `falling` takes them without d, `total` without the load, and no struct of them is plainer.
 fn rising(words: &mut [u64], from: usize, m: usize, d: usize, a: u64, b: u64)
     requires { Rest words.old from m d a b }
     ensures { Filled (low a b m) from (d + 1) words.old words.new }
 {
-    let mut k = m;
-    while k < d {
-        let n = k + 1;
-        words[from + n] = after(words[from + k], n as u64, a, b);
-        k = n;
+    for k in m..d {
+        words[from + k + 1] = after(words[from + k], (k + 1) as u64, a, b);
     }
 }
 
 // All weights together, each taken at most as much too low as it can be, and the last once more for the steps after d.
+#[tactic(auto, using(crate::proofs::TotalLaw::total_laws))]
 fn total(words: &[u64], from: usize, m: usize, d: usize) -> u64
     requires { Total words.now from m d }
     ensures { result ≡ sum_to (weighed words.now from m) (d + 1) + weighed words.now from m d }
 {
     let mut t = at_most(words[from + d], m, d);
-    let mut k: usize = 0;
-    while k <= d {
+    for k in 0..=d {
         t += at_most(words[from + k], m, k);
-        k += 1;
     }
     t
 }
 
 // The weights of steps 0 to d, from the largest one, at m, into the words from a place on; and their total.
+#[tactic(auto, using(crate::proofs::WeighLaw::weigh_laws))]
 pub fn weigh(words: &mut [u64], from: usize, m: usize, d: usize, a: u64, b: u64) -> u64
     requires { Weigh words.old from m d a b }
     ensures { (result ≡ ends.total a b m d) × Filled (low a b m) from (d + 1) words.old words.new }

@@ -11,14 +11,11 @@ pub fn clear_from(words: &mut [u64], from: usize, count: usize)
     requires { from + count ≤ length words.old }
     ensures { Filled (λ _. 0) from count words.old words.new }
 {
-    let mut i: usize = 0;
-    while i < count {
-        words[from + i] = 0;
-        i += 1;
-    }
+    words[from..from + count].fill(0);
 }
 
 // The first words.
+#[tactic(auto, using(numbers::specs::Filled::zeros_written))]
 pub fn clear_words(words: &mut [u64], count: usize)
     requires { count ≤ length words.old }
     ensures { words.new ≡ written (replicate count 0) words.old }

@@ -1,13 +1,13 @@
 -- `copy` meets its contract: the tests, the moves laid, and their copy. Assumes nothing.
-use borrow.Author.Rules.{rules}
-use Rattle.clean_copy.proofs.CopyLaw.{copy_laws, copy_made}
+use Rattle.std.proofs.Common.{rules}
+use Rattle.clean_copy.proofs.CopyLaw.{copy_refused_lem, may_lay, copy_made}
 use Rattle.clean_copy.proofs.copy.Goals as goal
 
+pub returns-in_err-sheet : goal.returns-in_err-sheet
+returns-in_err-sheet c = copy_refused_lem _ _ _ c.from_residual.result c.in_err-sheet.ensures.tested (search rules)
+
 pub lay-requires : goal.lay-requires
-lay-requires c = search (rules, copy_laws)
+lay-requires c = may_lay _ _ c.in_ok-sheet.ensures.tested c.in_ok-sheet.ensures.told _ _ (search rules) (search rules)
 
-pub returns-in-Refused : goal.returns-in-Refused
-returns-in-Refused c = search (rules, copy_laws)
-
-pub returns-in-Passed : goal.returns-in-Passed
-returns-in-Passed c = copy_made _ _ c.test_sheet-tests.ensures c.in-Passed.is c.lay.ensures _ c.copy_laid.new.out c.copy_laid.result c.copy_laid.ensures
+pub returns : goal.returns
+returns c = copy_made _ _ c.in_ok-sheet.ensures.tested c.in_ok-sheet.ensures.told c.lay.ensures _ c.copy.new.out c.copy.result c.copy.ensures

@@ -1,10 +1,10 @@
 -- The reader of formulas against the grammar as document 01 lists it: it finds a formula exactly where the tokens before it spell one, so
 -- each text has at most one reading. Assumes nothing.
-use Rattle.std.specs.Prelude.{◌≡◌, refl, Bool, true, false, cond, List, [], ◌∷◌, ◌++◌, ℕ, zero, suc, ◌≤◌, length, eqb}
+use Rattle.std.specs.Prelude.{◌≡◌, refl, Bool, true, false, cond, List, [], ◌∷◌, ◌++◌, ℕ, zero, suc, ◌≤◌, length, eqb, Option, None, Some}
 use Rattle.std.proofs.Common.{ap, sym, subst, ◌∙◌, arith, length-append, append_assoc, eqb-true}
 use Rattle.std.proofs.lemmas.Bool.{false≢true}
 use Rattle.std.proofs.Math.Bool.{and-eq-true_iff}
-use Rattle.std.proofs.Math.Option.{Option, none, some, none-ne-some, some-injective}
+use Rattle.std.proofs.lemmas.Option.{none-some, same_Some}
 use Rattle.csl.specs.Text.{Text, bytes, same}
 use Rattle.csl.specs.Labels.{is_word}
 use Rattle.csl.specs.Hours.{hundredths_of}
@@ -33,7 +33,7 @@ pub record TokenThen {A : Type 0} (spelled : Text → Option A) (ts : List Text)
   pub value : A
   pub more : List Text
   pub tokens : ts ≡ token ∷ more
-  pub is : spelled token ≡ some value
+  pub is : spelled token ≡ Some value
   pub after : next value more ≡ found f rest
 
 token_found : {A : Type 0} (spelled : Text → Option A) (ts : List Text) (next : A → List Text → Found) (f : Formula) (rest : List Text)
@@ -42,10 +42,10 @@ unfolding on_token
 token_found spelled [] next f rest h = nothing_found f rest h
 token_found {A} spelled (w ∷ ts) next f rest h = go (spelled w) refl h
   where
-    go : (o : Option A) → spelled w ≡ o → (elim o [ none ↦ nothing | some a ↦ next a ts ]) ≡ found f rest
+    go : (o : Option A) → spelled w ≡ o → (elim o [ None ↦ nothing | Some a ↦ next a ts ]) ≡ found f rest
         → TokenThen spelled (w ∷ ts) next f rest
-    go none e k = nothing_found f rest k
-    go (some a) e k = record { token = w; value = a; more = ts; tokens = refl; is = e; after = k }
+    go None e k = nothing_found f rest k
+    go (Some a) e k = record { token = w; value = a; more = ts; tokens = refl; is = e; after = k }
 
 -- bytes that are the same are equal
 same_cons : (a b : ℕ) (s t : Text) → a ≡ b → s ≡ t → ◌≡◌ {A = Text} (a ∷ s) (b ∷ t)
@@ -169,7 +169,7 @@ pair_sound read sound make ts f rest h =
 
 -- what stands after the tokens of `P` and of a path's head
 path_behind_sound : (read : Reader) → Sound read → (sign threshold : Text) (r : Comparison) (v : ℕ) (w : Text) (head : PathHead) → PathHeadIs w head
-    → (ts : List Text) (f : Formula) (rest : List Text) → comparison_of sign ≡ some r → number_of threshold ≡ some v
+    → (ts : List Text) (f : Formula) (rest : List Text) → comparison_of sign ≡ Some r → number_of threshold ≡ Some v
     → path_behind read r v head ts ≡ found f rest → Spelled f (bytes "P" ∷ sign ∷ threshold ∷ w ∷ ts) rest
 unfolding path_behind PathHeadIs
 path_behind_sound read sound sign threshold r v w untils u ts f rest e i h =
@@ -205,7 +205,7 @@ path_behind_sound read sound sign threshold r v w betweens u ts f rest e i h =
 path_behind_sound read sound sign threshold r v w no_path u ts f rest e i h = nothing_found f rest h
 
 path_sound : (read : Reader) → Sound read → (sign threshold : Text) (r : Comparison) (v : ℕ) (ts : List Text) (f : Formula) (rest : List Text)
-    → comparison_of sign ≡ some r → number_of threshold ≡ some v → path read r v ts ≡ found f rest
+    → comparison_of sign ≡ Some r → number_of threshold ≡ Some v → path read r v ts ≡ found f rest
     → Spelled f (bytes "P" ∷ sign ∷ threshold ∷ ts) rest
 unfolding path
 path_sound read sound sign threshold r v [] f rest e i h = nothing_found f rest h
@@ -275,7 +275,7 @@ unfolding pair and_then
 pair_complete read make a b s t h k rest = rw (append_assoc s t rest, h (t ++ rest), k rest) refl
 
 -- the tokens of `P`
-spelled_token : {A : Type 0} (spelled : Text → Option A) (w : Text) (ts : List Text) (next : A → List Text → Found) (a : A) → spelled w ≡ some a
+spelled_token : {A : Type 0} (spelled : Text → Option A) (w : Text) (ts : List Text) (next : A → List Text → Found) (a : A) → spelled w ≡ Some a
     → on_token spelled (w ∷ ts) next ≡ next a ts
 unfolding on_token
 spelled_token spelled w ts next a e = rw (e, on_token) refl
@@ -290,7 +290,7 @@ unfolding path
 headed_path read r p w head ts e = rw e refl
 
 until_complete : (read : Reader) (a b : Formula) (s t : List Text) (sign threshold hours : Text) (r : Comparison) (v u : ℕ)
-    → comparison_of sign ≡ some r → number_of threshold ≡ some v → hundredths_of hours ≡ some u
+    → comparison_of sign ≡ Some r → number_of threshold ≡ Some v → hundredths_of hours ≡ Some u
     → Complete read a s → Complete read b t → (rest : List Text)
     → state read (bytes "P") chances (sign ∷ threshold ∷ bytes "U" ∷ hours ∷ (s ++ t ++ rest))
     ≡ found (chance r v (until u a b)) rest
@@ -300,7 +300,7 @@ until_complete read a b s t sign threshold hours r v u e i j h k rest =
     ∙ spelled_token hundredths_of hours _ _ u j ∙ pair_complete read (λ a b. chance r v (until u a b)) a b s t h k rest
 
 next_complete : (read : Reader) (a : Formula) (s : List Text) (sign threshold : Text) (r : Comparison) (v : ℕ)
-    → comparison_of sign ≡ some r → number_of threshold ≡ some v → Complete read a s → (rest : List Text)
+    → comparison_of sign ≡ Some r → number_of threshold ≡ Some v → Complete read a s → (rest : List Text)
     → state read (bytes "P") chances (sign ∷ threshold ∷ bytes "X" ∷ (s ++ rest)) ≡ found (chance r v (next_move a)) rest
 unfolding state path_behind
 next_complete read a s sign threshold r v e i h rest =
@@ -308,7 +308,7 @@ next_complete read a s sign threshold r v e i h rest =
     ∙ single_complete read (λ a. chance r v (next_move a)) a s h rest
 
 between_complete : (read : Reader) (a b : Formula) (s t : List Text) (sign threshold earlier later : Text) (r : Comparison) (v u x : ℕ)
-    → comparison_of sign ≡ some r → number_of threshold ≡ some v → hundredths_of earlier ≡ some u → hundredths_of later ≡ some x
+    → comparison_of sign ≡ Some r → number_of threshold ≡ Some v → hundredths_of earlier ≡ Some u → hundredths_of later ≡ Some x
     → Complete read a s → Complete read b t → (rest : List Text)
     → state read (bytes "P") chances (sign ∷ threshold ∷ bytes "V" ∷ earlier ∷ later ∷ (s ++ t ++ rest))
     ≡ found (chance r v (between u x a b)) rest
@@ -369,23 +369,23 @@ read_complete (spells_between {a = a} {b = b} {s = s} {t = t} sign threshold ear
     (λ y. read_complete p k (omega (arith, length-append s t)) y) (λ y. read_complete q k (omega (arith, length-append s t)) y) rest)
 
 -- so tokens are read as a formula exactly where they spell it, all of them
-whole_found : (x : Found) (f : Formula) → whole x ≡ some f → x ≡ found f []
+whole_found : (x : Found) (f : Formula) → whole x ≡ Some f → x ≡ found f []
 unfolding whole
-whole_found nothing f h = absurd (none-ne-some f h)
-whole_found (found a []) f h = ap (λ (y : Formula). found y []) (some-injective a f h)
-whole_found (found a (w ∷ ts)) f h = absurd (none-ne-some f h)
+whole_found nothing f h = absurd (none-some f h)
+whole_found (found a []) f h = ap (λ (y : Formula). found y []) (same_Some _ _ h)
+whole_found (found a (w ∷ ts)) f h = absurd (none-some f h)
 
 append_nil : (l : List Text) → l ++ [] ≡ l
 append_nil [] = refl
 append_nil (x ∷ l) = ap (λ (y : List Text). x ∷ y) (append_nil l)
 
-pub read_if_spelled : (ts : List Text) (f : Formula) → Spells f ts → whole (read_state (length ts) ts) ≡ some f
+pub read_if_spelled : (ts : List Text) (f : Formula) → Spells f ts → whole (read_state (length ts) ts) ≡ Some f
 unfolding whole
 read_if_spelled ts f h =
     let e : read_state (length ts) (ts ++ []) ≡ found f [] = read_complete h (length ts) (omega arith) [] in
     rw (rw (append_nil ts) at e) refl
 
-pub spelled_if_read : (ts : List Text) (f : Formula) → whole (read_state (length ts) ts) ≡ some f → Spells f ts
+pub spelled_if_read : (ts : List Text) (f : Formula) → whole (read_state (length ts) ts) ≡ Some f → Spells f ts
 spelled_if_read ts f h =
     let x = read_sound (length ts) ts f [] (whole_found _ f h) in
     rw (x.split ∙ append_nil x.tokens) x.spells

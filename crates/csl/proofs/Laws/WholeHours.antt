@@ -1,7 +1,6 @@
 -- Hours without a point: they are read, tested and weighed as document 01 has it for whole hours. Assumes nothing.
-use Rattle.std.specs.Prelude.{◌≡◌, Bool, true, false, cond, ◌||◌, [], ◌∷◌, leb, eqb}
+use Rattle.std.specs.Prelude.{◌≡◌, Bool, true, false, cond, ◌||◌, [], ◌∷◌, leb, eqb, None, Some}
 use Rattle.std.proofs.Math.Path.{refl}
-use Rattle.std.proofs.Math.Option.{none, some}
 use Prim.Native.Nat.{ℕ, zero, suc, ◌*◌}
 use Rattle.std.proofs.Common.{arith, le-leb, leb-true, leb-false}
 use Rattle.std.proofs.lemmas.Bool.{lt-leb}
@@ -26,7 +25,7 @@ one_part mark (b ∷ w) h = go (eqb b mark) h (one_part mark w)
     go false e ih = rw (ih e)
 
 pub whole_read : (w : Text) → any (λ b. eqb b point) w ≡ false
-    → hundredths_of w ≡ cond (is_number formula_digits w) (some (value_of w * hour)) none
+    → hundredths_of w ≡ cond (is_number formula_digits w) (Some (value_of w * hour)) None
 unfolding hundredths_of hundredths_in
 whole_read w h = rw (one_part point w h)
 

@@ -1,13 +1,10 @@
 -- `until` meets its contract. Assumes nothing.
+use Rattle.std.proofs.Common.{rules}
 use Rattle.judgement.proofs.JudgeLaw.{judge_laws}
-use borrow.Author.Rules.{rules}
 use Rattle.judgement.proofs.until.Goals as goal
 
-pub ask_moves-requires : goal.ask_moves-requires
-ask_moves-requires c = search (rules, judge_laws)
+pub returns-then-moves_decide-clause-judge_leaves : goal.returns-then-moves_decide-clause-judge_leaves
+returns-then-moves_decide-clause-judge_leaves c = search (rules, judge_laws)
 
-pub returns-then-moves_decide : goal.returns-then-moves_decide
-returns-then-moves_decide c = search (rules, judge_laws)
-
-pub returns : goal.returns
-returns c = search (rules, judge_laws)
+pub returns-else-moves_decide-clause-judge_leaves : goal.returns-else-moves_decide-clause-judge_leaves
+returns-else-moves_decide-clause-judge_leaves c = search (rules, judge_laws)

@@ -1,11 +1,14 @@
--- `render` meets its contract: each arm by its case. Assumes nothing.
-use Rattle.report.specs.Listing.{listings}
-use Rattle.report.specs.Rendering.{fits}
+-- `render` meets its contract. Assumes nothing.
+use Rattle.report.proofs.FitsLaw.{report_lacks, report_shown, refusal_printed}
 use Rattle.report.proofs.render.Goals as goal
 
-pub returns-in-Accepted : goal.returns-in-Accepted
-returns-in-Accepted c = rw c.in-Accepted.is c.render_report.ensures
+pub returns-then-has_all : goal.returns-then-has_all
+returns-then-has_all c = rw c.in-Ok.is (report_shown _ _ _ _ _ _ _ c.if-has_all.ensures c.render.ensures)
 
-pub returns-in-Refused : goal.returns-in-Refused
-unfolding fits listings
-returns-in-Refused c = rw c.in-Refused.is c.render_refusal.ensures
+pub returns-else-has_all : goal.returns-else-has_all
+returns-else-has_all c = rw c.in-Ok.is (report_lacks _ _ _ _ _ c.args.out.now _ c.if-has_all.ensures)
+
+pub returns-in-Err : goal.returns-in-Err
+returns-in-Err c =
+    rw (c.in-Err.is, ← c.from.ensures)
+    (refusal_printed 0 c.args.lower.now c.args.upper.now c.args.verdicts.now c.args.order.now c.args.out.now _ c.render_refusal.ensures)

@@ -1,6 +1,5 @@
 -- `render_refusal` meets its contract: the test decides whether the text fits. Assumes nothing.
-use native.Mathlib.Omega.{arith}
-use borrow.Author.Rules.{rules}
+use Rattle.std.proofs.Common.{rules, arith}
 use Rattle.report.proofs.FitsLaw.{refusal_short, refusal_room, refusal_shown}
 use Rattle.report.proofs.render_refusal.Goals as goal
 

@@ -1,10 +1,12 @@
 -- `write` meets its contract. Assumes nothing.
-use Prim.Native.Nat.{◌-◌}
-use Rattle.results.proofs.WriteLaw.{Writing}
+use Rattle.std.proofs.Common.{◌+◌, get_or}
+use Rattle.numbers.specs.Filled.{Table}
 use Rattle.results.proofs.write.Given as goal
 
+-- the ends of the first s states are written
 abbrev pub invariant-loop-s : goal.invariant-loop-s
-invariant-loop-s l = Writing l.words l.row l.n l.initial.lower l.lower l.initial.upper l.upper l.initial.verdicts l.verdicts l.s
-
-abbrev pub decreases-loop-s : goal.decreases-loop-s
-decreases-loop-s l = l.n - l.s
+invariant-loop-s l =
+    record {
+      lowers : Table (λ k. get_or l.words k 0) l.initial.lower l.lower l.s;
+      uppers : Table (λ k. get_or l.words (l.n + k) 0) l.initial.upper l.upper l.s;
+    }

@@ -2,8 +2,8 @@
 use Rattle.sebdyqul.proofs.CalledLaw.{accepted_called, refused_called}
 use Rattle.sebdyqul.proofs.sebdyqul_check.Goals as goal
 
-pub returns-in-Accepted : goal.returns-in-Accepted
-returns-in-Accepted c = accepted_called _ _ _ _ c.check-checked.ensures.finished c.check-checked.ensures.found _ _ c.in-Accepted.is
+pub returns-in-Ok : goal.returns-in-Ok
+returns-in-Ok c = accepted_called _ _ _ c.in-Ok.ensures.found _ c.in-Ok.accepted c.in-Ok.ensures.finished
 
-pub returns-in-Refused : goal.returns-in-Refused
-returns-in-Refused c = refused_called _ _ _ _ c.check-checked.ensures.finished c.check-checked.ensures.found _ _ c.in-Refused.is
+pub returns-in-Err : goal.returns-in-Err
+returns-in-Err c = refused_called _ _ _ c.in-Err.ensures.found _ _ c.from.ensures c.in-Err.ensures.finished

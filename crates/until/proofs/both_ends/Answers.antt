@@ -1,22 +1,12 @@
 -- `both_ends` meets its contract. Assumes nothing.
-use borrow.Author.Rules.{rules}
-use Rattle.until.proofs.BothLaw.{both_laws, may_high, may_upper, may_point, is_both}
+use Rattle.until.proofs.BothLaw.{may_lower, may_high, may_upper, may_point, is_both}
 use Rattle.until.proofs.both_ends.Goals as goal
 
-pub gap-gap-requires : goal.gap-gap-requires
-gap-gap-requires c = search (rules, both_laws)
-
-pub read-requires : goal.read-requires
-read-requires c = search (rules, both_laws)
-
 pub lower_ends-requires : goal.lower_ends-requires
-lower_ends-requires c = search (rules, both_laws)
+lower_ends-requires c = may_lower c.requires c.read.ensures
 
 pub read_high-requires : goal.read_high-requires
 read_high-requires c = may_high c.requires c.read.ensures c.lower_ends.ensures
-
-pub error-requires : goal.error-requires
-error-requires c = search (rules, both_laws)
 
 pub upper_ends-requires : goal.upper_ends-requires
 upper_ends-requires c =
@@ -27,9 +17,6 @@ pub point-requires : goal.point-requires
 point-requires c =
     may_point c.requires c.read.ensures c.lower_ends.ensures c.gap-gap.ensures c.read_high.ensures
     c.error.ensures c.upper_ends.ensures
-
-pub shape_of-words : goal.shape_of-words
-shape_of-words c = search (rules, both_laws)
 
 pub returns : goal.returns
 returns c =

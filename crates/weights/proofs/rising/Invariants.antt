@@ -1,10 +1,8 @@
--- `rising` meets its contract. Assumes nothing.
-use Prim.Native.Nat.{◌-◌}
-use Rattle.weights.proofs.RisingLaw.{Inv}
+-- The weights of steps 0 to k stand. Assumes nothing.
+use Prim.Native.Nat.{◌+◌}
+use Rattle.bounds.specs.Weight.{low}
+use Rattle.numbers.specs.Filled.{Filled}
 use Rattle.weights.proofs.rising.Given as goal
 
 abbrev pub invariant-loop-k : goal.invariant-loop-k
-invariant-loop-k l = Inv l.initial.words l.words l.from l.m l.d l.a l.b l.k
-
-abbrev pub decreases-loop-k : goal.decreases-loop-k
-decreases-loop-k l = l.d - l.k
+invariant-loop-k l = Filled (low l.a l.b l.m) l.from (l.k + 1) l.fn.words l.words

@@ -1,6 +1,6 @@
 -- `over_next` meets its contract. Assumes nothing.
+use Rattle.std.proofs.Common.{rules}
 use Rattle.decide.proofs.NextLaw.{next_laws}
-use borrow.Author.Rules.{rules}
 use Rattle.decide.proofs.chance.over_next.Goals as goal
 
 pub next_move-requires : goal.next_move-requires

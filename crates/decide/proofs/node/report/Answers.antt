@@ -1,22 +1,7 @@
 -- `report` meets its contract. Assumes nothing.
+use Rattle.std.proofs.Common.{rules}
 use Rattle.decide.proofs.NodeLaw.{node_laws}
-use borrow.Author.Rules.{rules}
 use Rattle.decide.proofs.node.report.Goals as goal
-
-pub always-requires : goal.always-requires
-always-requires c = search (rules, node_laws)
-
-pub label-requires : goal.label-requires
-label-requires c = search (rules, node_laws)
-
-pub negated-requires : goal.negated-requires
-negated-requires c = search (rules, node_laws)
-
-pub both-requires : goal.both-requires
-both-requires c = search (rules, node_laws)
-
-pub chance-requires : goal.chance-requires
-chance-requires c = search (rules, node_laws)
 
 pub returns-in-Always : goal.returns-in-Always
 returns-in-Always c = search (rules, node_laws)

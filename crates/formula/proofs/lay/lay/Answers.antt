@@ -1,33 +1,13 @@
--- `lay` meets its contract. Assumes nothing.
+-- `lay` meets its contract, by the laws of `LayLaw`. Assumes nothing.
 use native.Mathlib.Omega.{arith}
-use mathlib.Core.Path.{refl}
-use borrow.Author.Rules.{rules}
-use Rattle.formula.proofs.LayLaw.{lay_place, lay_laws}
+use Rattle.formula.proofs.LayLaw.{lay_start, lay_on}
 use Rattle.formula.proofs.lay.lay.Goals as goal
 
-pub loop-left-init : goal.loop-left-init
-loop-left-init c = search (rules, lay_laws)
+pub loop-init : goal.loop-init
+loop-init c =
+    lay_start _ _ _ _ _ _ _ _ (omega arith) c.requires c.saturating_sub.ensures c.push.ensures c.first_part-w.ensures c.behind_first-s.ensures
 
-pub offset_bounds-waiting-at : goal.offset_bounds-waiting-at
-offset_bounds-waiting-at c = search (rules, lay_laws)
-
-pub bounds-waiting-at : goal.bounds-waiting-at
-bounds-waiting-at c = search (rules, lay_laws)
-
-pub overflow_add-waiting : goal.overflow_add-waiting
-overflow_add-waiting c = search (rules, lay_laws)
-
-pub offset_bounds-row-i : goal.offset_bounds-row-i
-offset_bounds-row-i c = let below = lay_place _ _ _ _ _ _ _ _ c.loop-left.invariant _ refl in record { fits = omega arith }
-
-pub bounds-row-i : goal.bounds-row-i
-bounds-row-i c = search (rules, lay_laws)
-
-pub with_operands-more-requires : goal.with_operands-more-requires
-with_operands-more-requires c = search (rules, lay_laws)
-
-pub loop-left-preserved : goal.loop-left-preserved
-loop-left-preserved c = search (rules, lay_laws)
-
-pub returns : goal.returns
-returns c = search (rules, lay_laws)
+pub loop-preserved : goal.loop-preserved
+loop-preserved c =
+    lay_on _ _ _ _ _ _ _ _ c.loop.invariant _ _ _ _ _ _ _ _ (omega arith) c.pop-i.ensures.next c.pop-i.ensures.others c.top_kind-kind.ensures
+    c.push_operands.ensures c.behind_own-rest.ensures c.part-w.ensures c.after-s.ensures

@@ -1,5 +1,5 @@
--- The sizes of state formulas, of one or two of them under a node, and of paths meet their contracts, by the laws of `HeadedLaw` and
--- `PairLaw`. Assumes nothing.
+-- The sizes of state formulas, of one or two of them under a node, and of paths meet their contracts, by the laws of `SizeLaw`.
+-- Assumes nothing.
 use Prim.Native.Nat.{◌+◌, ◌*◌}
 use lib.ListN.{length}
 use Rattle.formula.proofs.size.+size_headed_size_pair_size_path_size_single_size_state.Given as goal

@@ -1,9 +1,8 @@
 -- `word` meets its contract. Assumes nothing.
+use Prim.Native.Nat.{◌*◌, ◌-◌, ◌^◌}
+use lib.ListN.{drop}
 use Rattle.labels.proofs.WordLaw.{Wording}
 use Rattle.labels.proofs.words.word.Given as goal
 
-abbrev pub invariant-loop-left : goal.invariant-loop-left
-invariant-loop-left l = Wording l.s l.count l.t l.left l.sum l.value
-
-abbrev pub decreases-loop-left : goal.decreases-loop-left
-decreases-loop-left l = l.left
+abbrev pub invariant-loop-i : goal.invariant-loop-i
+invariant-loop-i l = Wording l.s l.count (drop (2 * l.i) l.s) (l.count - l.i) l.sum (2 ^ l.i)

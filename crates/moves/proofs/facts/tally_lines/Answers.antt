@@ -1,34 +1,24 @@
 -- `tally_lines` meets its contract, by the laws of `ReadLaw`. Assumes nothing.
-use borrow.Author.Rules.{rules}
-use Rattle.moves.proofs.ReadLaw.{tally_laws}
+use Rattle.std.proofs.Common.{rules, ◌∙◌, ◌<◌, ◌≤◌, length}
+use Rattle.moves.proofs.ReadLaw.{tally_none, tally_broken, tally_on, tally_done}
 use Rattle.moves.proofs.facts.tally_lines.Goals as goal
 
 pub loop-t-init : goal.loop-t-init
-loop-t-init c = search (rules, tally_laws)
+loop-t-init c = search tally_none
 
-pub returns-in-Bad : goal.returns-in-Bad
-returns-in-Bad c = search (rules, tally_laws)
-
-pub add_line-requires : goal.add_line-requires
-add_line-requires c = search (rules, tally_laws)
-
-pub add-sofar-requires : goal.add-sofar-requires
-add-sofar-requires c = search (rules, tally_laws)
-
-pub slice_bounds-t-count : goal.slice_bounds-t-count
-slice_bounds-t-count c = search (rules, tally_laws)
-
-pub slice_bounds-t-start : goal.slice_bounds-t-start
-slice_bounds-t-start c = search (rules, tally_laws)
-
-pub loop-t-smaller : goal.loop-t-smaller
-loop-t-smaller c = search (rules, tally_laws)
+pub returns-in_err-from : goal.returns-in_err-from
+returns-in_err-from c =
+    let l : 0 < length c.loop-t.t.now = search rules in
+    c.from_residual.ensures ∙ tally_broken c.loop-t.invariant c.move_line.ensures.value l c.args.head c.in_err-from.was
 
 pub loop-t-preserved : goal.loop-t-preserved
-loop-t-preserved c = search (rules, tally_laws)
-
-pub facts_of-requires : goal.facts_of-requires
-facts_of-requires c = search (rules, tally_laws)
+loop-t-preserved c =
+    let l : 0 < length c.loop-t.t.now = search rules in
+    tally_on c.loop-t.invariant c.move_line.ensures.value l c.in_ok-from.was c.move_line.ensures.within c.add-lines.ensures
+    c.add_line.ensures.totals_after
+    c.add_line.ensures.own
 
 pub returns : goal.returns
-returns c = search (rules, tally_laws)
+returns c =
+    let l : length c.loop-t.t.now ≤ 0 = search rules in
+    tally_done c.loop-t.invariant l c.args.head c.good_top.ensures

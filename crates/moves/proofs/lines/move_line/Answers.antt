@@ -1,34 +1,12 @@
 -- `move_line` meets its contract, by the laws of `LineLaw`. Assumes nothing.
-use Rattle.moves.proofs.LineLaw.{line_laws}
-use borrow.Author.Rules.{rules}
+use mathlib.Core.Path.{◌∙◌}
+use Rattle.moves.proofs.LineLaw.{third_bad, all_read}
 use Rattle.moves.proofs.lines.move_line.Goals as goal
 
-pub returns-in_default : goal.returns-in_default
-returns-in_default c = search (rules, line_laws)
+pub returns-in_err-rate-clause-value : goal.returns-in_err-rate-clause-value
+returns-in_err-rate-clause-value c =
+    c.from_residual-in_err-rate.ensures
+    ∙ third_bad _ c.field.ensures.value c.in_ok-from.was c.field-2.ensures.value c.in_ok-to.was c.field-3.ensures.value c.in_err-rate.was
 
-pub slice_bounds-u-count : goal.slice_bounds-u-count
-slice_bounds-u-count c = search (rules, line_laws)
-
-pub slice_bounds-u-start : goal.slice_bounds-u-start
-slice_bounds-u-start c = search (rules, line_laws)
-
-pub returns-in_default-field : goal.returns-in_default-field
-returns-in_default-field c = search (rules, line_laws)
-
-pub slice_bounds-w-count : goal.slice_bounds-w-count
-slice_bounds-w-count c = search (rules, line_laws)
-
-pub slice_bounds-w-start : goal.slice_bounds-w-start
-slice_bounds-w-start c = search (rules, line_laws)
-
-pub returns-in_default-field-2 : goal.returns-in_default-field-2
-returns-in_default-field-2 c = search (rules, line_laws)
-
-pub overflow_add-result : goal.overflow_add-result
-overflow_add-result c = search (rules, line_laws)
-
-pub overflow_add-result-2 : goal.overflow_add-result-2
-overflow_add-result-2 c = search (rules, line_laws)
-
-pub returns : goal.returns
-returns c = search (rules, line_laws)
+pub returns-clause-value : goal.returns-clause-value
+returns-clause-value c = all_read _ c.field.ensures.value c.in_ok-from.was c.field-2.ensures.value c.in_ok-to.was c.field-3.ensures.value c.in_ok-rate.was

@@ -1,10 +1,8 @@
 -- `top_rate` meets its contract. Assumes nothing.
-use Prim.Native.Nat.{◌-◌}
-use Rattle.moves.proofs.TotalsLaw.{Seeking}
+use mathlib.Core.Path.{◌≡◌}
+use Rattle.csl.specs.Chain.{greatest}
+use Rattle.moves.proofs.TotalsLaw.{leaving}
 use Rattle.moves.proofs.totals.top_rate.Given as goal
 
 abbrev pub invariant-loop-s : goal.invariant-loop-s
-invariant-loop-s l = Seeking l.totals l.owns l.states l.top l.s
-
-abbrev pub decreases-loop-s : goal.decreases-loop-s
-decreases-loop-s l = l.states - l.s
+invariant-loop-s l = l.top ≡ greatest (leaving l.totals l.owns) l.s

@@ -1,10 +1,6 @@
 -- `next_move` meets its contract. Assumes nothing.
-use Prim.Native.Nat.{◌-◌}
 use Rattle.next_move.proofs.EndsLaw.{Inv}
 use Rattle.next_move.proofs.ends.next_move.Given as goal
 
 abbrev pub invariant-loop-s : goal.invariant-loop-s
 invariant-loop-s l = Inv l.moves l.initial.words l.words l.operand l.n l.begin l.s
-
-abbrev pub decreases-loop-s : goal.decreases-loop-s
-decreases-loop-s l = l.n - l.s

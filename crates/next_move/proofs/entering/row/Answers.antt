@@ -1,46 +1,27 @@
 -- `row` meets its contract. Assumes nothing.
-use borrow.Author.Rules.{rules}
-use Rattle.next_move.proofs.RowLaw.{row_laws}
+use mathlib.Core.Path.{refl}
+use Prim.Native.Nat.{◌-◌, ◌<◌}
+use native.Mathlib.Omega.{arith}
+use native.Mathlib.Nat.{add_assoc}
+use Rattle.rate_matrix.specs.Words.{part_at}
+use Rattle.next_move.proofs.RowLaw.{low_fits, high_fits, turn}
 use Rattle.next_move.proofs.entering.row.Goals as goal
 
-pub loop-j-init : goal.loop-j-init
-loop-j-init c = search (rules, row_laws)
-
-pub offset_bounds-moves-j : goal.offset_bounds-moves-j
-offset_bounds-moves-j c = search (rules, row_laws)
-
-pub bounds-moves-j : goal.bounds-moves-j
-bounds-moves-j c = search (rules, row_laws)
-
-pub rate_of-rate-requires : goal.rate_of-rate-requires
-rate_of-rate-requires c = search (rules, row_laws)
-
-pub to_of-requires : goal.to_of-requires
-to_of-requires c = search (rules, row_laws)
-
-pub bounds-operand-to_of : goal.bounds-operand-to_of
-bounds-operand-to_of c = search (rules, row_laws)
-
-pub share-low-requires : goal.share-low-requires
-share-low-requires c = search (rules, row_laws)
-
 pub overflow_add-low : goal.overflow_add-low
-overflow_add-low c = search (rules, row_laws)
-
-pub share-high-requires : goal.share-high-requires
-share-high-requires c = search (rules, row_laws)
+overflow_add-low c =
+    let h : c.loop-word.word-index < c.args.end - c.args.begin = omega arith in
+    let w = part_at c.args.moves.now c.args.begin c.args.end c.loop-word.word-index h in
+    low_fits c.loop-word.invariant (omega arith) _ _ _ (rw w at c.rate_of-rate.ensures) (rw w at c.to_of.ensures.value) refl _ c.share-low.ensures
 
 pub overflow_add-high : goal.overflow_add-high
-overflow_add-high c = search (rules, row_laws)
+overflow_add-high c =
+    let h : c.loop-word.word-index < c.args.end - c.args.begin = omega arith in
+    let w = part_at c.args.moves.now c.args.begin c.args.end c.loop-word.word-index h in
+    high_fits c.loop-word.invariant (omega arith) _ _ _ (rw w at c.rate_of-rate.ensures) (rw w at c.to_of.ensures.value) refl _ c.share-high.ensures
 
-pub overflow_add-j : goal.overflow_add-j
-overflow_add-j c = search (rules, row_laws)
-
-pub loop-j-smaller : goal.loop-j-smaller
-loop-j-smaller c = search (rules, row_laws)
-
-pub loop-j-preserved : goal.loop-j-preserved
-loop-j-preserved c = search (rules, row_laws)
-
-pub returns : goal.returns
-returns c = search (rules, row_laws)
+pub loop-word-preserved : goal.loop-word-preserved
+loop-word-preserved c =
+    let h : c.loop-word.word-index < c.args.end - c.args.begin = omega arith in
+    let w = part_at c.args.moves.now c.args.begin c.args.end c.loop-word.word-index h in
+    rw (← add_assoc c.args.begin c.loop-word.word-index 1)
+    (turn c.loop-word.invariant (omega arith) _ _ _ (rw w at c.rate_of-rate.ensures) (rw w at c.to_of.ensures.value) refl _ _ c.share-low.ensures c.share-high.ensures)

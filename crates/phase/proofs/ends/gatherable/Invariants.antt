@@ -1,10 +1,8 @@
--- `gatherable` meets its contract. Assumes nothing.
-use Prim.Native.Nat.{◌+◌, ◌-◌}
-use Rattle.phase.proofs.GatherLaw.{Inv}
+-- The parts of the steps before k are added up. Assumes nothing.
+use mathlib.Core.Path.{◌≡◌}
+use Rattle.csl.specs.Chain.{sum_to}
+use Rattle.phase.proofs.GatherLaw.{part_at}
 use Rattle.phase.proofs.ends.gatherable.Given as goal
 
 abbrev pub invariant-loop-k : goal.invariant-loop-k
-invariant-loop-k l = Inv l.words l.n l.last l.error l.g l.k
-
-abbrev pub decreases-loop-k : goal.decreases-loop-k
-decreases-loop-k l = l.last + 1 - l.k
+invariant-loop-k l = l.g ≡ sum_to (part_at l.words l.n l.error) l.k

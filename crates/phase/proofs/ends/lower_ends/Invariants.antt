@@ -1,10 +1,7 @@
--- `lower_ends` meets its contract. Assumes nothing.
-use Prim.Native.Nat.{◌-◌}
-use Rattle.phase.proofs.EndsLaw.{Lower}
+-- The ends of the states before s stand. Assumes nothing.
+use Rattle.numbers.specs.Filled.{Filled}
+use Rattle.phase.specs.Ends.{lower_at}
 use Rattle.phase.proofs.ends.lower_ends.Given as goal
 
 abbrev pub invariant-loop-s : goal.invariant-loop-s
-invariant-loop-s l = Lower l.initial.words l.words l.n l.total l.s
-
-abbrev pub decreases-loop-s : goal.decreases-loop-s
-decreases-loop-s l = l.n - l.s
+invariant-loop-s l = Filled (lower_at l.fn.words l.n) 0 l.s l.fn.words l.words

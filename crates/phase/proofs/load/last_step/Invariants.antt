@@ -1,9 +1,6 @@
--- `last_step` meets its contract. Assumes nothing.
-use Rattle.phase.proofs.LastLaw.{Inv}
+-- The weights after step k are dropped. Assumes nothing.
+use Rattle.phase.proofs.LastLaw.{Dropped}
 use Rattle.phase.proofs.load.last_step.Given as goal
 
 abbrev pub invariant-loop-k : goal.invariant-loop-k
-invariant-loop-k l = Inv l.words l.n l.depth l.most l.rest l.k
-
-abbrev pub decreases-loop-k : goal.decreases-loop-k
-decreases-loop-k l = l.k
+invariant-loop-k l = Dropped l.words l.n l.depth l.most l.rest l.k

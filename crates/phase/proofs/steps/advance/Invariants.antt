@@ -1,10 +1,10 @@
--- `advance` meets its contract. Assumes nothing.
-use Prim.Native.Nat.{◌-◌}
-use Rattle.phase.proofs.AdvanceLaw.{Inv}
+-- The values and sums of the states before i are new. Assumes nothing.
+use Prim.Native.Nat.{◌+◌, ◌*◌}
+use Rattle.numbers.specs.Filled.{Twin}
+use Rattle.bounds.specs.Unit.{part}
+use Rattle.vectors.specs.Places.{next_at, sum_at}
 use Rattle.phase.proofs.steps.advance.Given as goal
 
 abbrev pub invariant-loop-i : goal.invariant-loop-i
-invariant-loop-i l = Inv l.initial.words l.words l.n l.w l.i
-
-abbrev pub decreases-loop-i : goal.decreases-loop-i
-decreases-loop-i l = l.n - l.i
+invariant-loop-i l =
+    Twin (next_at l.fn.words l.n) (λ j. sum_at l.fn.words l.n j + part l.w (next_at l.fn.words l.n j)) (2 * l.n) (4 * l.n) l.i l.fn.words l.words

@@ -1,10 +1,6 @@
 -- `seed` meets its contract. Assumes nothing.
-use Prim.Native.Nat.{◌-◌}
 use Rattle.reachability.proofs.SeedLaw.{Inv}
 use Rattle.reachability.proofs.begin.seed.Given as goal
 
 abbrev pub invariant-loop-s : goal.invariant-loop-s
 invariant-loop-s l = Inv l.initial.words l.initial.rows l.words l.rows l.n l.tail l.s
-
-abbrev pub decreases-loop-s : goal.decreases-loop-s
-decreases-loop-s l = l.n - l.s

@@ -1,46 +1,23 @@
 -- `enter` meets its contract. Assumes nothing.
-use borrow.Author.Rules.{rules}
-use Rattle.reachability.proofs.EnterLaw.{enter_laws}
+use Prim.Native.Nat.{◌-◌, ◌<◌}
+use native.Mathlib.Omega.{arith}
+use native.Mathlib.Nat.{add_assoc}
+use Rattle.rate_matrix.specs.Words.{part_at}
+use Rattle.reachability.proofs.EnterLaw.{may_take, turn, finish_early}
 use Rattle.reachability.proofs.spread.enter.Goals as goal
 
-pub loop-k-init : goal.loop-k-init
-loop-k-init c = search (rules, enter_laws)
-
-pub shape_of-words-then-tail-most : goal.shape_of-words-then-tail-most
-shape_of-words-then-tail-most c = search (rules, enter_laws)
-
-pub shape_of-rows-then-tail-most : goal.shape_of-rows-then-tail-most
-shape_of-rows-then-tail-most c = search (rules, enter_laws)
-
 pub returns-then-tail-most : goal.returns-then-tail-most
-returns-then-tail-most c = search (rules, enter_laws)
-
-pub offset_bounds-index-k : goal.offset_bounds-index-k
-offset_bounds-index-k c = search (rules, enter_laws)
-
-pub bounds-index-k : goal.bounds-index-k
-bounds-index-k c = search (rules, enter_laws)
-
-pub to_of-s-requires : goal.to_of-s-requires
-to_of-s-requires c = search (rules, enter_laws)
+returns-then-tail-most c = finish_early c.loop-word.invariant (omega arith) c.if-tail-most.true
 
 pub take-tail-requires : goal.take-tail-requires
-take-tail-requires c = search (rules, enter_laws)
+take-tail-requires c =
+    let h : c.loop-word.word-index < c.args.end - c.args.begin = omega arith in
+    let w = part_at c.args.index.now c.args.begin c.args.end c.loop-word.word-index h in
+    may_take c.loop-word.invariant (omega arith) c.if-tail-most.false _ (rw w at c.to_of-s.ensures.value)
 
-pub overflow_add-k : goal.overflow_add-k
-overflow_add-k c = search (rules, enter_laws)
-
-pub loop-k-smaller : goal.loop-k-smaller
-loop-k-smaller c = search (rules, enter_laws)
-
-pub loop-k-preserved : goal.loop-k-preserved
-loop-k-preserved c = search (rules, enter_laws)
-
-pub shape_of-words : goal.shape_of-words
-shape_of-words c = search (rules, enter_laws)
-
-pub shape_of-rows : goal.shape_of-rows
-shape_of-rows c = search (rules, enter_laws)
-
-pub returns : goal.returns
-returns c = search (rules, enter_laws)
+pub loop-word-preserved : goal.loop-word-preserved
+loop-word-preserved c =
+    let h : c.loop-word.word-index < c.args.end - c.args.begin = omega arith in
+    let w = part_at c.args.index.now c.args.begin c.args.end c.loop-word.word-index h in
+    rw (← add_assoc c.args.begin c.loop-word.word-index 1)
+    (turn c.loop-word.invariant (omega arith) c.if-tail-most.false _ (rw w at c.to_of-s.ensures.value) c.take-tail.ensures.value c.take-tail.ensures.queue c.take-tail.ensures.bytes)

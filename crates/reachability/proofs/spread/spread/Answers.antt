@@ -3,20 +3,8 @@ use borrow.Author.Rules.{rules}
 use Rattle.reachability.proofs.SpreadLaw.{spread_laws}
 use Rattle.reachability.proofs.spread.spread.Goals as goal
 
-pub loop-head-init : goal.loop-head-init
-loop-head-init c = search (rules, spread_laws)
-
-pub shape_of-words-then-tail-most : goal.shape_of-words-then-tail-most
-shape_of-words-then-tail-most c = search (rules, spread_laws)
-
-pub shape_of-rows-then-tail-most : goal.shape_of-rows-then-tail-most
-shape_of-rows-then-tail-most c = search (rules, spread_laws)
-
 pub returns-then-tail-most : goal.returns-then-tail-most
 returns-then-tail-most c = search (rules, spread_laws)
-
-pub overflow_mul-t : goal.overflow_mul-t
-overflow_mul-t c = search (rules, spread_laws)
 
 pub overflow_add-t : goal.overflow_add-t
 overflow_add-t c = search (rules, spread_laws)
@@ -30,9 +18,6 @@ bounds-words-n c = search (rules, spread_laws)
 pub row_begin-begin-requires : goal.row_begin-begin-requires
 row_begin-begin-requires c = search (rules, spread_laws)
 
-pub overflow_mul-n : goal.overflow_mul-n
-overflow_mul-n c = search (rules, spread_laws)
-
 pub overflow_add-n : goal.overflow_add-n
 overflow_add-n c = search (rules, spread_laws)
 
@@ -41,9 +26,6 @@ offset_bounds-words-n-in-loop-head c = search (rules, spread_laws)
 
 pub bounds-words-n-in-loop-head : goal.bounds-words-n-in-loop-head
 bounds-words-n-in-loop-head c = search (rules, spread_laws)
-
-pub row_end_of-end-requires : goal.row_end_of-end-requires
-row_end_of-end-requires c = search (rules, spread_laws)
 
 pub enter-tail-requires : goal.enter-tail-requires
 enter-tail-requires c = search (rules, spread_laws)
@@ -56,12 +38,6 @@ loop-head-smaller c = search (rules, spread_laws)
 
 pub loop-head-preserved : goal.loop-head-preserved
 loop-head-preserved c = search (rules, spread_laws)
-
-pub shape_of-words : goal.shape_of-words
-shape_of-words c = search (rules, spread_laws)
-
-pub shape_of-rows : goal.shape_of-rows
-shape_of-rows c = search (rules, spread_laws)
 
 pub returns : goal.returns
 returns c = search (rules, spread_laws)

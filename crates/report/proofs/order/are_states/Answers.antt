@@ -1,17 +1,13 @@
--- `are_states` meets its contract. The invariant: the numbers from place i on decide. Assumes nothing.
-use borrow.Author.Rules.{rules}
-use mathlib.Core.Path.{refl}
-use Rattle.report.proofs.StatesLaw.{no_state, a_state, all_states}
+-- `are_states` meets its contract. Assumes nothing.
+use Rattle.std.specs.Prelude.{take, ltb}
+use Rattle.std.proofs.Common.{rules, tests, sym, ◌∙◌}
+use Rattle.std.proofs.lemmas.Iterator.{YieldsList-from_slice}
+use Rattle.std.proofs.lemmas.Iterator.Search.{all_from_yields_List}
+use Rattle.report.proofs.StatesLaw.{every_is}
 use Rattle.report.proofs.order.are_states.Goals as goal
 
-pub loop-i-init : goal.loop-i-init
-loop-i-init c = (search rules, refl)
-
-pub returns-then-states-index : goal.returns-then-states-index
-returns-then-states-index c = search (rules, no_state)
-
-pub loop-i-preserved : goal.loop-i-preserved
-loop-i-preserved c = (search rules, search (rules, a_state))
-
 pub returns : goal.returns
-returns c = search (rules, all_states)
+returns c =
+    let front = take c.args.states c.args.order.now in
+    all_from_yields_List (λ s. ltb s c.args.states) _ _ _ c.all.ensures.ran (YieldsList-from_slice front cc) (λ x b q k. search (rules, tests))
+    ∙ sym (every_is (λ s. ltb s c.args.states) front)

@@ -1,46 +1,39 @@
 -- `number` meets its contract. Assumes nothing.
-use borrow.Author.Rules.{rules}
 use native.Mathlib.Omega.{arith}
-use mathlib.Core.Path.{sym, ◌∙◌}
-use Rattle.texts.specs.Counting.{none_counted, one_more, fits, digit_range}
-use Rattle.texts.proofs.NumberLaw.{number_ends, number_long, held}
+use mathlib.Core.Path.{◌≡◌, sym, ◌∙◌}
+use mathlib.Core.Bool.{false}
+use lib.ListN.{get_or}
+use Rattle.csl.specs.Number.{is_digit}
+use Rattle.texts.specs.Counting.{one_more, fits, no_digit}
+use Rattle.texts.proofs.NumberLaw.{number_ends, number_long}
+use Rattle.texts.proofs.digits.number.Goals.{else-end-s-via-then-end-s+else-is_digit, else-end-s-via-else-end-s}
 use Rattle.texts.proofs.digits.number.Goals as goal
-
-pub loop-used-init : goal.loop-used-init
-loop-used-init c = (search rules, none_counted _)
-
-pub overflow_cast-b : goal.overflow_cast-b
-overflow_cast-b c = omega (arith, c.type_inv.s c.loop-used.used)
 
 pub returns-then-not-is_digit : goal.returns-then-not-is_digit
 returns-then-not-is_digit c =
-    let i = c.loop-used.invariant.1 in
     let e = sym c.is_digit.ensures ∙ c.if-not-is_digit.true in
-    let both = number_ends _ i e (omega arith) (omega arith) (omega arith) c.settle.ensures in
+    let both = number_ends _ c.loop-used.invariant e (omega arith) (omega arith) (omega arith) c.settle.ensures in
     record { value = both.0; within = both.1 }
 
 pub overflow_mul-value : goal.overflow_mul-value
-overflow_mul-value c = omega (arith, fits c.loop-used.invariant.1 10 (omega arith))
-
-pub overflow_sub-value : goal.overflow_sub-value
-overflow_sub-value c = (digit_range _ (sym c.is_digit.ensures ∙ c.if-not-is_digit.false)).0
-
-pub overflow_add-value : goal.overflow_add-value
-overflow_add-value c =
-    let n = one_more c.loop-used.invariant.1 (search held) in
-    omega (arith, fits n 10 (omega arith))
+overflow_mul-value c = omega (arith, fits c.loop-used.invariant 10 (omega arith))
 
 pub loop-used-preserved : goal.loop-used-preserved
-loop-used-preserved c = (omega arith, search (one_more, held))
+loop-used-preserved c = one_more c.loop-used.invariant (sym c.is_digit.ensures ∙ c.if-not-is_digit.false)
 
-pub returns-then-digit_at : goal.returns-then-digit_at
-returns-then-digit_at c =
-    let i = c.loop-used.invariant.1 in
-    record { value = number_long _ i (sym c.digit_at.ensures ∙ c.if-digit_at.true) (omega arith); within = search rules }
+pub returns-then-is_digit : goal.returns-then-is_digit
+returns-then-is_digit c =
+    let u : c.loop-used.used ≡ c.min-end.result = omega arith in
+    let i = rw u at c.loop-used.invariant in
+    record { value = number_long _ i (sym c.is_digit-then-end-s.ensures ∙ c.if-is_digit.true) (omega arith); within = omega arith }
 
 pub returns : goal.returns
 returns c =
-    let i = c.loop-used.invariant.1 in
-    let e = sym c.digit_at.ensures ∙ c.if-digit_at.false in
+    let u : c.loop-used.used ≡ c.min-end.result = omega arith in
+    let i = rw u at c.loop-used.invariant in
+    let e : is_digit (get_or c.args.s.now c.min-end.result 0) ≡ false = elim c.else-end-s.branch [
+      | else-end-s-via-then-end-s+else-is_digit w ↦ sym w.is_digit-then-end-s.ensures ∙ w.if-is_digit.false
+      | else-end-s-via-else-end-s w ↦ no_digit _ _ w.if-end-s.false
+    ] in
     let both = number_ends _ i e (omega arith) (omega arith) (omega arith) c.settle-2.ensures in
     record { value = both.0; within = both.1 }

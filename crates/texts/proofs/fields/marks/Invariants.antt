@@ -1,12 +1,14 @@
 -- `marks` meets its contract. Assumes nothing.
-use Prim.Native.Nat.{◌+◌, ◌*◌, ◌≤◌}
+use Prim.Native.Nat.{◌+◌, ◌*◌, ◌-◌, ◌≤◌}
 use mathlib.Core.Path.{◌≡◌}
 use lib.ListN.{length}
 use Rattle.texts.specs.Marks.{marks_in}
 use Rattle.texts.proofs.fields.marks.Given as goal
 
-abbrev pub invariant-loop-left : goal.invariant-loop-left
-invariant-loop-left l = (1 ≤ l.left) × (l.used + length l.t ≡ length l.s) × (l.used + 2 * l.left ≡ 2 * l.count) × (marks_in l.count l.s ≡ marks_in l.left l.t)
-
-abbrev pub decreases-loop-left : goal.decreases-loop-left
-decreases-loop-left l = l.left
+-- the marks before `counter` are read
+abbrev pub invariant-loop : goal.invariant-loop
+invariant-loop l =
+    (1 ≤ l.counter)
+    × (l.counter ≤ l.count)
+    × (2 * l.counter + length l.t ≡ length l.s + 2)
+    × (marks_in l.count l.s ≡ marks_in (l.count + 1 - l.counter) l.t)

@@ -1,10 +1,6 @@
 -- `point` meets its contract. Assumes nothing.
-use Prim.Native.Nat.{◌-◌}
 use Rattle.until.proofs.PointLaw.{Inv}
 use Rattle.until.proofs.ends.point.Given as goal
 
 abbrev pub invariant-loop-s : goal.invariant-loop-s
-invariant-loop-s l = Inv l.initial.words l.words l.first l.second l.n l.s
-
-abbrev pub decreases-loop-s : goal.decreases-loop-s
-decreases-loop-s l = l.n - l.s
+invariant-loop-s l = Inv l.initial.words l.words l.operands.first.now l.operands.second.now l.n l.s

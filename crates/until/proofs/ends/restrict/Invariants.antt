@@ -1,10 +1,6 @@
--- `restrict` meets its contract. Assumes nothing.
-use Prim.Native.Nat.{◌-◌}
+-- The ends of the states before s are those to start from. Assumes nothing.
 use Rattle.until.proofs.RestrictLaw.{Inv}
 use Rattle.until.proofs.ends.restrict.Given as goal
 
 abbrev pub invariant-loop-s : goal.invariant-loop-s
-invariant-loop-s l = Inv l.initial.words l.words l.first l.n l.s
-
-abbrev pub decreases-loop-s : goal.decreases-loop-s
-decreases-loop-s l = l.n - l.s
+invariant-loop-s l = Inv l.fn.words l.words l.first l.n l.s

@@ -1,10 +1,8 @@
--- `still` meets its contract. Assumes nothing.
-use Prim.Native.Nat.{◌-◌}
-use Rattle.until.proofs.StillLaw.{Inv}
+-- The ends of the states before s stand. Assumes nothing.
+use Rattle.csl.specs.Report.{lower_of, upper_of}
+use Rattle.vectors.specs.Storing.{Inv}
+use Rattle.until.specs.Reading.{verdicts}
 use Rattle.until.proofs.ends.still.Given as goal
 
 abbrev pub invariant-loop-s : goal.invariant-loop-s
-invariant-loop-s l = Inv l.initial.words l.words l.second l.n l.s
-
-abbrev pub decreases-loop-s : goal.decreases-loop-s
-decreases-loop-s l = l.n - l.s
+invariant-loop-s l = Inv (λ g. lower_of (verdicts l.second g)) (λ g. upper_of (verdicts l.second g)) l.fn.words l.words l.n l.s

@@ -1,10 +1,6 @@
--- `gap` meets its contract. Assumes nothing.
-use Prim.Native.Nat.{◌-◌}
-use Rattle.until.proofs.GapLaw.{Inv}
+-- How far apart the two ends of the states before s are. Assumes nothing.
+use Rattle.until.proofs.GapLaw.{GapTo}
 use Rattle.until.proofs.reading.gap.Given as goal
 
 abbrev pub invariant-loop-s : goal.invariant-loop-s
-invariant-loop-s l = Inv l.words l.first l.second l.n l.gap l.s
-
-abbrev pub decreases-loop-s : goal.decreases-loop-s
-decreases-loop-s l = l.n - l.s
+invariant-loop-s l = GapTo l.words l.operands.first.now l.operands.second.now l.n l.gap l.s

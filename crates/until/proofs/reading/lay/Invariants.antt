@@ -1,10 +1,6 @@
--- `lay` meets its contract. Assumes nothing.
-use Prim.Native.Nat.{◌-◌}
-use Rattle.until.proofs.LayLaw.{Inv}
+-- The words of the states before s are laid. Assumes nothing.
+use Rattle.until.proofs.LayLaw.{LaidTo}
 use Rattle.until.proofs.reading.lay.Given as goal
 
 abbrev pub invariant-loop-s : goal.invariant-loop-s
-invariant-loop-s l = Inv l.initial.words l.words l.first l.second l.n l.q l.as_yes l.from l.s
-
-abbrev pub decreases-loop-s : goal.decreases-loop-s
-decreases-loop-s l = l.n - l.s
+invariant-loop-s l = LaidTo l.operands.first.now l.operands.second.now l.n l.q l.as_yes l.s l.fn.words l.words

@@ -6,14 +6,5 @@ use Rattle.until.proofs.reading.read.Goals as goal
 pub lay-requires : goal.lay-requires
 lay-requires c = search (rules, read_laws)
 
-pub begin-requires : goal.begin-requires
-begin-requires c = search (rules, read_laws)
-
-pub run-requires : goal.run-requires
-run-requires c = search (rules, read_laws)
-
-pub shape_of-words : goal.shape_of-words
-shape_of-words c = search (rules, read_laws)
-
 pub returns : goal.returns
 returns c = search (rules, read_laws)

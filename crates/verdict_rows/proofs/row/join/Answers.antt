@@ -1,38 +1,7 @@
 -- `join` meets its contract. Assumes nothing.
-use borrow.Author.Rules.{rules}
-use Rattle.verdict_rows.specs.Filling.{filling_laws}
-use Rattle.verdict_rows.proofs.RowLaw.{joined_more}
+use Rattle.std.proofs.Common.{rules}
+use Rattle.verdict_rows.proofs.RowLaw.{front_set}
 use Rattle.verdict_rows.proofs.row.join.Goals as goal
 
-pub loop-s-init : goal.loop-s-init
-loop-s-init c = search (rules, joined_more, filling_laws)
-
-pub bounds-rows-s : goal.bounds-rows-s
-bounds-rows-s c = search (rules, joined_more, filling_laws)
-
-pub overflow_add-n : goal.overflow_add-n
-overflow_add-n c = search (rules, joined_more, filling_laws)
-
-pub bounds-rows-n : goal.bounds-rows-n
-bounds-rows-n c = search (rules, joined_more, filling_laws)
-
-pub of_both-requires : goal.of_both-requires
-of_both-requires c = search (rules, joined_more, filling_laws)
-
-pub bounds-rows-s-in-loop-s : goal.bounds-rows-s-in-loop-s
-bounds-rows-s-in-loop-s c = search (rules, joined_more, filling_laws)
-
-pub overflow_add-s : goal.overflow_add-s
-overflow_add-s c = search (rules, joined_more, filling_laws)
-
-pub loop-s-smaller : goal.loop-s-smaller
-loop-s-smaller c = search (rules, joined_more, filling_laws)
-
-pub loop-s-preserved : goal.loop-s-preserved
-loop-s-preserved c = search (rules, joined_more, filling_laws)
-
-pub shape_of-rows : goal.shape_of-rows
-shape_of-rows c = search (rules, joined_more, filling_laws)
-
 pub returns : goal.returns
-returns c = search (rules, joined_more, filling_laws)
+returns c = front_set _ c.set.ensures c.split_at_mut-row.ensures.value c.split_at_mut-row.ensures.front_len (λ s h e r. search rules)

@@ -1,32 +1,7 @@
 -- `negate` meets its contract. Assumes nothing.
-use borrow.Author.Rules.{rules}
-use Rattle.verdict_rows.specs.Filling.{filling_laws}
-use Rattle.verdict_rows.proofs.RowLaw.{negated_more}
+use Rattle.std.proofs.Common.{rules}
+use Rattle.verdict_rows.proofs.RowLaw.{row_set}
 use Rattle.verdict_rows.proofs.row.negate.Goals as goal
 
-pub loop-s-init : goal.loop-s-init
-loop-s-init c = search (rules, negated_more, filling_laws)
-
-pub bounds-row-s : goal.bounds-row-s
-bounds-row-s c = search (rules, negated_more, filling_laws)
-
-pub of_negation-requires : goal.of_negation-requires
-of_negation-requires c = search (rules, negated_more, filling_laws)
-
-pub bounds-row-s-in-loop-s : goal.bounds-row-s-in-loop-s
-bounds-row-s-in-loop-s c = search (rules, negated_more, filling_laws)
-
-pub overflow_add-s : goal.overflow_add-s
-overflow_add-s c = search (rules, negated_more, filling_laws)
-
-pub loop-s-smaller : goal.loop-s-smaller
-loop-s-smaller c = search (rules, negated_more, filling_laws)
-
-pub loop-s-preserved : goal.loop-s-preserved
-loop-s-preserved c = search (rules, negated_more, filling_laws)
-
-pub shape_of-row : goal.shape_of-row
-shape_of-row c = search (rules, negated_more, filling_laws)
-
 pub returns : goal.returns
-returns c = search (rules, negated_more, filling_laws)
+returns c = row_set c.set.ensures (λ s h r. search rules)

@@ -1,0 +1,16 @@
+-- What checking a job answers, and what document 01 calls it. Assumes nothing.
+use Rattle.std.specs.Prelude.{ℕ, Result, Ok, Err}
+use Rattle.csl.specs.Finished.{Answer, accepted_with, refused_with}
+use Rattle.verdicts.specs.Refusal.{number_of}
+use Rattle.verdicts.specs.declared.answer.Accepted.{Accepted}
+use Rattle.verdicts.specs.declared.refusal.Refusal.{Refusal}
+
+-- "An accepted job answers with the depth"; one that is turned back, with its number
+abbrev pub answer_of : Result Accepted Refusal → Answer
+answer_of (Ok accepted) = accepted_with accepted.depth
+answer_of (Err refusal) = refused_with (number_of refusal)
+
+-- the states of an accepted job's report; none of a refused one
+abbrev pub reported_states : Result Accepted Refusal → ℕ
+reported_states (Ok accepted) = accepted.states
+reported_states (Err refusal) = 0

@@ -1,2 +1,0 @@
--- Laws behind the proofs of `zeros`.
-pub mod ClearLaw
