@@ -72,7 +72,7 @@ fn check_formula(
 // follow from them. All else is determined, for all texts and lengths: refused or accepted, the number or the depth, and every place of every
 // lent buffer. `found` says which ends they are, by the chain and the formula alone: so move lines in another order leave the same bytes, and so do
 // repeated pairs in the results (`same_bytes` and `same_report` of specs/Alike); and where other marks are lent, long enough as well, all other
-// buffers are left the same (`same_but_for_marks` of specs/OtherMarks).
+// buffers are left the same (`same_but_for_marks` of specs/OtherMarks). Texts and buffers come apart: README names this function as it is.
 pub fn check(
     moves: &[u8],
     labels: &[u8],

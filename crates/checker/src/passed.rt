@@ -44,6 +44,7 @@ fn decide_all(
 }
 
 // Zeros in the move words, their index among them, in the vector words and the mark bytes of a job with n states, m move lines and so many nodes.
+// The lent buffers stay apart, as in `check_formula`.
 fn clear_all(
     n: usize,
     m: usize,

@@ -9,6 +9,7 @@ use crate::row::{row_length, write_row};
 use limits::MOST_STATES;
 use verdicts::Refusal;
 
+// The totals are lent to be worked in, and no part of the rates; so each asks for as many as there are states.
 impl Rates<'_> {
     // How many bytes the copy has: 13 for the first line with its line feed, and those of the lines from each state.
     fn copy_length(&self, totals: &mut [u64]) -> usize

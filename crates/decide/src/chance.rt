@@ -41,6 +41,7 @@ fn over_next(sheet: LaidSheet, vectors: &mut [u64], marks: &mut [u8], bound: Bou
 // Over an until between two times, the first of which is above 0: first the later phase, the until over the difference; then, with no state of the
 // second operand as a goal any more, the earlier phase from the ends that it left. The row of the first operand is the node's own; that of the
 // second, behind it, is put back to 0. The depth is that of both.
+// The words and marks stay apart, as in `decide`.
 fn over_two_phases(
     sheet: LaidSheet,
     vectors: &mut [u64],
@@ -65,6 +66,7 @@ fn over_two_phases(
 }
 
 // Over an until between two times: with the first of them 0 it is the until over the second.
+// The words and marks stay apart, as in `decide`.
 fn over_between(
     sheet: LaidSheet,
     vectors: &mut [u64],

@@ -1,4 +1,4 @@
-// Numbers in decimal digits.
+// Numbers in decimal digits. By hand: they go to a place of a lent buffer, and with no heap nothing stands in between that a `Display` could write to.
 ghost use Rattle.std.specs.Prelude.{◌≡◌, ◌∷◌, ◌+◌, ◌≤◌, ◌%◌, length};
 ghost use Rattle.csl.specs.Line.{comma};
 ghost use Rattle.csl.specs.Report.{decimal};

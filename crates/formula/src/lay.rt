@@ -14,7 +14,8 @@ use crate::waiting::Waiting;
 use grammar::{Head, PathStart};
 use limits::MOST_NODES;
 
-// How many nodes the state formula at the start of a rest has.
+// How many nodes the state formula at the start of a rest has. Here and below there is an answer for what no formula begins with too, as `nodes_at`
+// and `top_kind` of specs/ have it.
 fn nodes_of(s: &[u8]) -> usize
     ensures { result ≡ nodes_at (tokens s.now) }
 {

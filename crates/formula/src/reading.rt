@@ -11,7 +11,7 @@ use crate::{lay, size};
 use limits::{MOST_LEVELS, MOST_NODES};
 
 // The formula that a text spells: its nodes and levels, counted past every limit, and the nodes themselves where there are at most 64 in at
-// most 16 levels. Where there are more, there are no nodes.
+// most 16 levels. Where there are more, there are no nodes, as `reading_of` has it.
 #[derive(Clone, Copy)]
 pub struct Reading {
     pub count: usize,

@@ -24,7 +24,8 @@ pub fn names_part<'a>(labels: &'a [u8], first: usize) -> &'a [u8]
     texts::behind_first(&labels[..first], b',')
 }
 
-// Where the name w stands among names, each behind a comma; how many they are where it is none of them.
+// Where the name w stands among names, each behind a comma; how many they are where it is none of them, as csl's `place_of`
+// answers.
 #[tactic(auto, using(crate::proofs::NamesLaw::name_laws))]
 pub fn place(names: &[u8], w: &[u8]) -> usize
     ensures { result ≡ place_of (parts_behind comma names.now) w.now }
@@ -58,6 +59,7 @@ fn is_name(w: &[u8]) -> bool
 fn good_names(s: &[u8]) -> bool
     ensures { result ≡ every is_name (parts_behind comma s.now) }
 {
+    // A walk, as in `place`.
     let mut t = s;
     while !t.is_empty() {
         if !is_name(texts::part(t, b',')) {
@@ -73,6 +75,7 @@ fn good_names(s: &[u8]) -> bool
 fn no_repeat(s: &[u8]) -> bool
     ensures { result ≡ no_repeat (parts_behind comma s.now) }
 {
+    // A walk, as in `place`.
     let mut t = s;
     while !t.is_empty() {
         let w = texts::part(t, b',');

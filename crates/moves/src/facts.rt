@@ -53,6 +53,7 @@ fn tally_lines(head: bool, s: &[u8], states: usize) -> Option<MovesFacts>
     let mut totals = [0u32; MOST_STATES];
     let mut owns = [0u32; MOST_STATES];
     let mut lines = Tally::new();
+    // A walk: where a line ends shows only when it is read, so no `for` is plainer.
     let mut t = s;
     while !t.is_empty() {
         let Line {

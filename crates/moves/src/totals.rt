@@ -11,7 +11,8 @@ use limits::MOST_STATES;
 // The most that a state's rates may add up to.
 pub const MOST_RATE: u32 = limits::MOST_RATE as u32;
 
-// One above it, which stands for every sum that is too high.
+// One above it, which stands for every sum that is too high. A number and no Option: the sums stand in arrays of 32 bits, and the greatest of them is
+// asked for.
 const TOO_HIGH: u32 = MOST_RATE + 1;
 
 // As many sums as there are states in the largest sheet.

@@ -5,7 +5,8 @@ ghost use Rattle.phase.specs.Value.{next};
 ghost use Rattle.phase.specs.Moving.{RowAsked, RowSummed, StateAsked, Moving, Moved};
 
 // The words of one row, their rates times values added to a sum.
-// By an index: tried over the slice `&moves[begin..end]`, where a step of the engine took 6 in a hundred longer.
+// By an index: tried over the slice `&moves[begin..end]`, where a step of the engine took 6 in a hundred longer. No struct is
+// plainer: `state` alone calls this.
 fn row(moves: &[u64], words: &[u64], n: usize, begin: usize, end: usize, own: u64) -> u64
     requires { RowAsked moves.now words.now n begin end own }
     ensures { RowSummed moves.now words.now n begin end own result }

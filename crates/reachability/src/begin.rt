@@ -4,7 +4,8 @@ ghost use Rattle.csl.specs.Chain.{sum_to};
 ghost use Rattle.numbers.specs.Filled.{at};
 ghost use Rattle.reachability.specs.Asked.{ReachAsked, rows_reached, words_reached, tail_reached, SeedAsked, SeedLeaves, CountAsked};
 
-// State s, if it is found, is reached, and is queued at `tail`. The queue then ends at what is returned.
+// State s, if it is found, is reached, and is queued at `tail`. The queue then ends at what is returned. That it
+// is found is a parameter so that the clauses say both cases (`tail_reached`).
 // The words and rows stay apart: of a struct of `&mut` slices a clause could say what is left only as `exit.0`, `exit.1.0` and so on.
 #[tactic(auto, using(crate::proofs::ReachLaw::reach_laws))]
 fn reach(found: bool, words: &mut [u64], rows: &mut [u8], n: usize, s: usize, tail: usize) -> usize

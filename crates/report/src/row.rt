@@ -47,7 +47,7 @@ impl Row {
     }
 }
 
-// A comma and a verdict's word.
+// A comma and a verdict's word, as bytes for a place of a lent buffer, which no `Display` writes to.
 fn word(verdict: Verdict) -> &'static [u8]
     ensures is { result.now ≡ comma ∷ verdict_word (verdict_of verdict) }
     ensures few { length result.now ≤ 10 }

@@ -25,7 +25,7 @@ fn store_marks(labels: &[u8], names: usize, vectors: &mut [u64], n: usize)
     labels::store(labels, names, &mut vectors[from..]);
 }
 
-// The index of the first m words, behind them, where it is wanted.
+// The index of the first m words, behind them, where it is wanted; that is a parameter so that the clause says both cases (`IndexStored`).
 #[tactic(auto, using(crate::proofs::StoreLaw::index_stored, crate::proofs::StoreLaw::none_stored))]
 fn store_index(words: &mut [u64], m: usize, vectors: &mut [u64], n: usize, wanted: bool)
     requires { IndexAsked words.old m vectors.old (owns_from n) n }

@@ -12,7 +12,7 @@ pub struct Numeral {
 }
 
 // The bytes of the digits 0 and 9, in 64 bits: a digit is tested and counted in the size of the number that it becomes part of.
-// Kept: with `is_ascii_digit`, which tests in 8 bits, reading the moves took a tenth longer.
+// Kept: with `is_ascii_digit`, which tests in 8 bits, storing the moves took 12 in a hundred longer.
 pub const ZERO: u64 = b'0' as u64;
 
 const NINE: u64 = b'9' as u64;

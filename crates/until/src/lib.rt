@@ -64,7 +64,7 @@ fn phase_over(chain: Chain, words: &mut [u64], operands: Operands, t: u64) -> us
 }
 
 // The two ends of each state for an until over t hundredths of an hour, and the depth; the words are prepared, and each operand's verdict
-// bytes are one row.
+// bytes are one row. The parts of `Chain` and `Operands` come apart here and in `earlier` (given.rt).
 pub fn until(
     moves: &[u64],
     words: &mut [u64],

@@ -20,7 +20,8 @@ fn is_held(first: bool, second: bool) -> bool
     second || !first
 }
 
-// What stays put at a state with this exit rate, of q; more than q where its value is held.
+// What stays put at a state with this exit rate, of q; more than q where its value is held. One number and no Option:
+// it stands in a lent word, as `stay_of` has it.
 fn stays(held: bool, q: u64, exit: u64) -> u64
     requires { StaysAsked q exit }
     ensures { result ≡ stay_of q exit held }

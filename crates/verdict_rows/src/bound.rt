@@ -8,7 +8,7 @@ ghost use Rattle.verdict_rows.specs.Byte.{judged_byte, told_byte, next_byte};
 
 use verdicts::{Comparison, Interval};
 
-// A comparison with a threshold, in billionths.
+// A comparison with a threshold, in billionths. `grammar::Bound` is one as it was read, of any size; this one passed the test of its threshold.
 #[derive(Clone, Copy)]
 pub struct Bound {
     pub comparison: Comparison,

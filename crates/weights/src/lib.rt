@@ -107,7 +107,8 @@ fn total(words: &[u64], from: usize, m: usize, d: usize) -> u64
     t
 }
 
-// The weights of steps 0 to d, from the largest one, at m, into the words from a place on; and their total.
+// The weights of steps 0 to d, from the largest one, at m, into the words from a place on; and their total. The numbers stay apart, as in
+// `rising`.
 #[tactic(auto, using(crate::proofs::WeighLaw::weigh_laws))]
 pub fn weigh(words: &mut [u64], from: usize, m: usize, d: usize, a: u64, b: u64) -> u64
     requires { Weigh words.old from m d a b }
