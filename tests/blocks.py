@@ -6,6 +6,7 @@ import re
 import subprocess
 
 SYMBOL = re.compile(r"^[0-9a-f]+ .{6}F \.text\S*\s+[0-9a-f]+ (?:\.hidden )?(\S+)$", re.MULTILINE)
+OUTSIDE = re.compile(r"^[0-9a-f]+ .{7} \*UND\*\s+[0-9a-f]+ (\S+)$", re.MULTILINE)
 ENTRY = re.compile(r"^([0-9a-f]+) <(.+)>:$")
 INSTRUCTION = re.compile(r"^ *([0-9a-f]+):\t(\S.*)$")
 TARGET = re.compile(r"^(?:bnd |notrack )?(?:j\w+|loop\w*) +([0-9a-f]+) <")
@@ -20,6 +21,11 @@ def objdump(*words):
 def functions_of(archive):
     """The names of the functions that an archive defines."""
     return set(SYMBOL.findall(objdump("-t", archive)))
+
+
+def needed_by(archive):
+    """The names that an archive takes from outside."""
+    return set(OUTSIDE.findall(objdump("-t", archive)))
 
 
 def disassembled(shared):

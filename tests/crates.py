@@ -101,6 +101,21 @@ def for_nobody(crate):
     return sorted(items - used)
 
 
+def members_for_nobody(crate):
+    """The public functions and constants of a crate's public types that the code of no other crate names, as `Type::name`."""
+    rest = "\n".join(text for other in listed() if other != crate for text in texts(other, "*.rt").values())
+    found = []
+    for text in texts(crate, "*.rt").values():
+        owner = None
+        for line in text.splitlines():
+            begun, item = METHODS.match(line), ITEM.match(line)
+            owner = begun[1] if begun else None if line == "}" else owner
+            if item and item["indent"] and owner in public(crate):
+                if not re.search(rf"\.{item['name']}\(|\b{owner}::{item['name']}\b", rest):
+                    found.append(f"{owner}::{item['name']}")
+    return sorted(found)
+
+
 def named(crate):
     """The crates that a crate names: in code as `name::`, in statements as `Rattle.name.`, and through what it calls.
 

@@ -7,9 +7,11 @@ from tests import crates
 # Crates made up for the rules: the last one calls the middle one, through which it reaches a value of the first.
 MADE_UP = {
     "first_made": "pub enum Kind {\n    One,\n}\n\npub enum Other {\n    One,\n}\n",
-    "middle_made": "mod part;\n\npub use part::helped;\n\npub struct Pair {\n    pub left: u64,\n}\n\npub fn made(n: u64) -> first_made::Kind\n"
+    "middle_made": "mod part;\n\npub use part::helped;\n\npub struct Pair {\n    pub left: u64,\n}\n\n"
+                   "impl Pair {\n    pub const NONE: u64 = 0;\n\n    pub fn sum(self) -> u64 {\n        0\n    }\n\n"
+                   "    pub(crate) fn half(self) -> u64 {\n        0\n    }\n}\n\npub fn made(n: u64) -> first_made::Kind\n"
                    "    ensures { }\n{\n    n\n}\n\npub fn paired() -> Pair {\n    0\n}\n\npub const SPARE: u64 = 1;\n",
-    "last_made": "pub extern \"C\" fn called() {\n    middle_made::made(1);\n    middle_made::paired();\n}\n",
+    "last_made": "pub extern \"C\" fn called() {\n    middle_made::made(1);\n    middle_made::paired().sum();\n}\n",
 }
 
 
@@ -37,6 +39,10 @@ class Crates(unittest.TestCase):
         told = [f"{name}: {' '.join(items)}" for name in crates.listed() if (items := crates.for_nobody(name))]
         self.none("public, and named by no other crate", told)
 
+    def test_public_members_are_what_another_crate_calls(self):
+        told = [f"{name}: {' '.join(items)}" for name in crates.listed() if (items := crates.members_for_nobody(name))]
+        self.none("public in a public type, and named by no other crate", told)
+
 
 class Rules(unittest.TestCase):
     """What the two rules make of the crates that are made up for them."""
@@ -59,6 +65,10 @@ class Rules(unittest.TestCase):
         self.assertEqual(crates.for_nobody("first_made"), ["Other"])
         self.assertEqual(crates.for_nobody("middle_made"), ["SPARE", "helped"])
         self.assertEqual(crates.for_nobody("last_made"), [])
+
+    def test_members_for_nobody(self):
+        self.assertEqual(crates.members_for_nobody("first_made"), [])
+        self.assertEqual(crates.members_for_nobody("middle_made"), ["Pair::NONE"])
 
 
 if __name__ == "__main__":

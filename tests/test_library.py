@@ -11,10 +11,11 @@ from reckoning.refusal import BY_TEXTS, Lent, lengths, needed, refusal
 from reckoning.sheets import FAST_MOVES, FORMULA, LABELS, MOVES, NO_MOVES, labels_text, moves_text
 from tests import edges, many_nodes, orders, two_times, ways
 from tests.agreement import elements, library_faults, printed, refusal_number, rows_of, tried
+from tests.blocks import needed_by
 from tests.jobs import damaged_job, random_job
 from tests.library import ENOUGH, GUARD, KINDS, MORE, Library
 from tests.mutations import bent_job
-from tests.places import FOLDERS
+from tests.places import ARCHIVE, FOLDERS
 from tests.possible import drawn_job
 from tests.program import run
 from tests.small_formulas import SMALL_FORMULAS
@@ -90,6 +91,13 @@ class Jobs(LibraryTest):
             return [printed(library.check(job), states_of(job)) for job in jobs]
         with ThreadPoolExecutor(2) as threads:
             self.assertEqual(list(threads.map(each, range(2))), [alone, alone])
+
+
+class Archive(LibraryTest):
+    """What the archive is linked with."""
+
+    def test_needs_what_the_header_names(self):
+        self.assertEqual(needed_by(ARCHIVE), {"memcpy", "memset"})
 
 
 class EveryByte(LibraryTest):

@@ -2,7 +2,7 @@
 use mathlib.Core.Path.{◌≡◌, refl, sym, ap, subst, ◌∙◌}
 use mathlib.Core.Bool.{Bool, true, false}
 use mathlib.Core.List.{List}
-use Rattle.std.specs.Prelude.{None, Some, option_map, Result, Ok, Err}
+use Rattle.std.specs.Prelude.{Option, None, Some, option_map, Result, Ok, Err, IfOk}
 use Prim.Native.Nat.{ℕ, ◌≤◌, ◌<◌}
 use native.Mathlib.Omega.{arith}
 use lib.ListN.{length}
@@ -22,7 +22,7 @@ use Rattle.accepted.specs.Job.{refused_by_texts, refused_by_lengths, accepted_by
 use Rattle.bounds.specs.Found.{report_lower, report_upper, found}
 use Rattle.bounds.proofs.Found.{report_found}
 use Rattle.verdicts.specs.Answer.{answer_of, reported_states}
-use Rattle.verdicts.specs.Refusal.{refusal_in}
+use Rattle.verdicts.specs.Refusal.{number_of, refusal_in}
 use Rattle.verdicts.specs.declared.answer.Accepted.{Accepted}
 use Rattle.verdicts.specs.declared.refusal.Refusal.{Refusal}
 use Rattle.texts.specs.Span.{span_of}
@@ -45,6 +45,18 @@ use Rattle.checker.specs.Report.{formula_in, ReportAsked, ReportLeft}
 refused_as : {k : ℕ} (x : Result Accepted Refusal) → refusal_in x ≡ Some k → (answer_of x ≡ refused_with k) × (reported_states x ≡ 0)
 refused_as (Ok a) e = absurd cc
 refused_as (Err r) e = (cc, refl)
+
+-- what is told of tests that hold
+module _ {A : Type 0} {r : Result A Refusal} {x : A} (e : r ≡ Ok x) where
+  pub none_holds : {o : Option ℕ} → refusal_in r ≡ o → None ≡ o
+  none_holds h = sym (ap refusal_in e) ∙ h
+
+  pub then_laid : {P : Type 0} → IfOk r (λ _. P) → P
+  then_laid h = rw e at h
+
+-- and of one that does not
+pub one_holds : {A : Type 0} {r : Result A Refusal} {x : Refusal} {o : Option ℕ} → r ≡ Err x → refusal_in r ≡ o → Some (number_of x) ≡ o
+one_holds e h = sym (ap refusal_in e) ∙ h
 
 module _ (j : Job) (before : Buffers (List ℕ)) where
   by : {o : Outcome} (x : Answer) (after : Buffers (List ℕ)) → outcome j (lengths before) ≡ o → FinishedBy j o before x after → Finished j before x after

@@ -18,7 +18,6 @@ use Rattle.csl.specs.Chain.{top_rate}
 use Rattle.csl.specs.Order.{worst_first}
 use Rattle.csl.specs.Lent.{Buffers, column, written}
 use Rattle.accepted.specs.Sheet.{SheetPassed}
-use Rattle.std.specs.Prelude.{None}
 use Rattle.refusals.specs.Sheet.{dimensions_of}
 use Rattle.csl.proofs.Laws.Order.{order_same}
 use Rattle.numbers.specs.Filled.{at, Table, table_at, table_rest, zeros_written, zeros_at}

@@ -43,7 +43,9 @@ fn check_formula(
 {
     let has = sheet.has;
     let names = labels::names_part(sheet.labels, has.first);
-    let nodes = refusals::test_formula(formula, names, has.names, has.q)?;
+    let read = refusals::test_formula(formula, names, has.names, has.q);
+    read.tested?;
+    let nodes = read.nodes;
     let lent = Lengths {
         lower: lower.len(),
         upper: upper.len(),

@@ -9,6 +9,6 @@ number_told (Some refusal) = Some (number_of refusal)
 number_told None = None
 
 -- whether there is one
-abbrev pub Told : Option Refusal → Bool → Type 0
-Told (Some refusal) told = told ≡ true
+abbrev pub Told : Option ℕ → Bool → Type 0
+Told (Some number) told = told ≡ true
 Told None told = told ≡ false

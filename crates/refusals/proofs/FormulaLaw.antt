@@ -3,7 +3,9 @@ use mathlib.Core.Path.{◌≡◌, refl, sym, ap, ◌∙◌}
 use Prim.Native.Nat.{ℕ}
 use mathlib.Core.Bool.{Bool, true, false, not, ◌||◌}
 use mathlib.Core.List.{List, [], ◌∷◌}
-use Rattle.std.specs.Prelude.{Option, None, Some, option_map}
+use Rattle.std.specs.Prelude.{Option, None, Some, option_map, Result, Ok, Err, IfOk}
+use Rattle.verdicts.specs.Refusal.{refusal_in}
+use Rattle.verdicts.specs.declared.refusal.Refusal.{Refusal}
 use lib.ListN.{length}
 use lib.Dec.{ltb}
 use borrow.Author.Tests.{le-leb, ltb-false, not-true, not-false}
@@ -113,3 +115,9 @@ module _ (names : List Text) (q : ℕ) (o : Option Formula) {e : Reading} (is : 
       let f : Formula = formula_from o in
       let known : reading_of names (Some f) ≡ Some e = rw (← good.spelled) is in
       rw good.spelled (ap (option_map (λ (x : Reading). x.nodes)) (sym (reading_few names f good.fitting.few_nodes good.fitting.few_levels) ∙ known))
+
+  -- so that what passes was laid
+  pub passed_laid : {A : Type 0} (r : Result A Refusal) → refusal_in r ≡ first_of (formula_tests names q o)
+      → IfOk r (λ _. option_map (stored names) o ≡ Some e.nodes)
+  passed_laid (Ok x) h = laid h
+  passed_laid (Err k) h = tt

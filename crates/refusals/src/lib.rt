@@ -6,6 +6,6 @@ mod formula_tests;
 mod lengths;
 mod sheet_tests;
 
-pub use formula_tests::test_formula;
+pub use formula_tests::{TestedFormula, test_formula};
 pub use lengths::{Lengths, too_short};
 pub use sheet_tests::{Dimensions, out_of_bytes, test_sheet};

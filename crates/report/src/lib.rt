@@ -10,14 +10,14 @@ mod rows;
 
 ghost use Rattle.std.specs.Prelude.{length, leb};
 ghost use Rattle.csl.specs.Report.{refusal_text};
-ghost use Rattle.verdicts.specs.Answer.{answer_of, reported_states};
+ghost use Rattle.verdicts.specs.Answer.{numbered_answer, reported_states};
 ghost use Rattle.decimals.specs.Place.{Room, Wrote};
 ghost use Rattle.report.specs.Rendering.{Rendering, Printed};
 
 use complete::has_all;
 use decimals::{decimal_length, write_byte, write_bytes, write_decimal};
 use rows::Rows;
-use verdicts::{Accepted, Refusal};
+use verdicts::Accepted;
 
 // Writes the text for an answer to the front of `out`, and answers how long it is: of an accepted job the two listings of its states, whose ends
 // and verdict bytes are in the slices, and whose order in the second listing is in `order`; a byte over 2 counts as undecided. A refusal takes
@@ -25,16 +25,17 @@ use verdicts::{Accepted, Refusal};
 //
 // None where the buffer is too short for the text, or a slice for the states, or the order has a number that is no state's; the buffer is as it
 // was then.
-// The columns come apart from whoever calls, and their lengths are tested here before they are `Rows`.
+// The columns come apart from whoever calls, and their lengths are tested here before they are `Rows`. A refusal is any number, as for
+// `write_refusal`: what is taken here may not shrink.
 pub fn render(
     out: &mut [u8],
-    answer: Result<Accepted, Refusal>,
+    answer: Result<Accepted, u64>,
     lower: &[u32],
     upper: &[u32],
     verdicts: &[u8],
     order: &[u16],
 ) -> Option<usize>
-    ensures { Printed (reported_states answer) (answer_of answer) lower.now upper.now verdicts.now order.now
+    ensures { Printed (reported_states answer) (numbered_answer answer) lower.now upper.now verdicts.now order.now
         out.old out.new result }
 {
     match answer {
@@ -53,7 +54,7 @@ pub fn render(
                 None
             }
         }
-        Err(refusal) => render_refusal(out, u64::from(refusal)),
+        Err(number) => render_refusal(out, number),
     }
 }
 

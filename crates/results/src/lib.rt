@@ -8,8 +8,9 @@ ghost use Rattle.verdict_rows.specs.Row.{EndsIn};
 
 // Writes the report of n states, from what deciding the formula left: the ends from the first 2 * n words, the lower ones and then the upper
 // ones, and the verdicts from the first row of bytes.
+// One loop writes all three: a copy of the bytes by itself would have the library's archive ask for `memmove`, which its header does not name.
 // The result buffers stay apart: of a struct of `&mut` slices a clause could say what is left only as `exit.0`, `exit.1.0` and so on.
-#[tactic(auto, using(numbers::specs::Filled::table_written, crate::proofs::WriteLaw::column_copied))]
+#[tactic(auto, using(numbers::specs::Filled::table_written))]
 pub fn write(
     words: &[u64],
     row: &[u8],
@@ -27,6 +28,6 @@ pub fn write(
     for s in 0..n {
         lower[s] = words[s] as u32;
         upper[s] = words[n + s] as u32;
+        verdicts[s] = row[s];
     }
-    verdicts[..n].copy_from_slice(&row[..n]);
 }

@@ -2,9 +2,9 @@
 use mathlib.Core.Path.{◌≡◌, refl, ap, ◌∙◌}
 use mathlib.Core.Bool.{true}
 use mathlib.Core.List.{List}
-use Rattle.std.specs.Prelude.{Option, None, Some, Result, Ok, Err}
+use Rattle.std.specs.Prelude.{Option, None, Some, Result, Ok, Err, MatchResult}
 use Rattle.std.specs.Option.{unwrap_or}
-use Rattle.std.specs.Result.{result_err}
+use Rattle.std.specs.Result.{result_err, IsErrAnd}
 use Prim.Native.Nat.{ℕ, ◌≤◌, ◌<◌}
 use native.Mathlib.Omega.{arith}
 use lib.ListN.{length, take}
@@ -23,7 +23,8 @@ use Rattle.accepted.specs.Job.{passed, refused_by_texts, accepted_by_all, text_n
 use Rattle.console.specs.Counts.{IsPrefixLen}
 use Rattle.console.proofs.Counting.{prefix_len_of_le}
 use Rattle.verdicts.specs.Byte.{verdict_at, byte_read}
-use Rattle.verdicts.specs.Answer.{answer_of}
+use Rattle.verdicts.specs.Answer.{answer_of, numbered_answer, reported_states}
+use Rattle.verdicts.specs.Refusal.{number_of}
 use Rattle.verdicts.specs.declared.answer.Accepted as code
 use Rattle.verdicts.specs.declared.refusal.Refusal.{Refusal}
 use Rattle.results.specs.Column.{column_length, written_length, written_at_lem}
@@ -159,6 +160,15 @@ module _ (j : Job) (before after : Buffers (List ℕ)) (a : Answer) (n : ℕ) (o
           let q = none_short j (passed j e) (lengths before) lent.lowers lent.uppers lent.bytes lent.places lent.words lent.vectors lent.marks in
           let o = accepted_by_all j (lengths before) e q in
           report_text_lem e (s ∙ ap states_in o) lent (rw o at f)
+
+-- what is rendered where the number stands in the refusal's place
+pub numbered_printed : (a : Result code.Accepted Refusal) (b : Result code.Accepted ℕ)
+    → MatchResult a (λ x. b ≡ Ok x) (λ e. IsErrAnd b (λ number. number ≡ number_of e)) → (lower upper verdicts order : List ℕ) {old new : List ℕ} {r : Option ℕ}
+    → Printed (reported_states b) (numbered_answer b) lower upper verdicts order old new r
+    → Printed (reported_states a) (answer_of a) lower upper verdicts order old new r
+numbered_printed (Ok x) b e _ _ _ _ p = rw e at p
+numbered_printed (Err k) (Err number) e _ _ _ _ p = rw e at p
+numbered_printed (Err k) (Ok x) e _ _ _ _ p = absurd e
 
 -- what is answered: the text's length and the refusal
 told_is : (a : Result code.Accepted Refusal) → number_told (result_err a) ≡ refused_in (answer_of a)

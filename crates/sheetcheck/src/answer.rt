@@ -48,7 +48,8 @@ pub fn write_answer(moves: &[u8], labels: &[u8], formula: &[u8], out: &mut [u8])
         &mut vectors,
         &mut marks,
     );
-    let rendered = report::render(out, checked, &lower, &upper, &verdicts, &order);
+    let numbered = checked.map_err(u64::from);
+    let rendered = report::render(out, numbered, &lower, &upper, &verdicts, &order);
     Written {
         length: rendered.unwrap_or(0),
         refusal: checked.err(),

@@ -17,5 +17,10 @@ fn main(rt: HostRuntime) {
     let l = read_text(&rt, b"labels.txt", &mut labels);
     let f = read_text(&rt, b"formula.txt", &mut formula);
     let written = write_answer(&moves[..m], &labels[..l], &formula[..f], &mut out);
-    print(&rt, b"sheetcheck", &out[..written.length], written.refusal);
+    print(
+        &rt,
+        b"sheetcheck",
+        &out[..written.length],
+        written.refusal.map(u64::from),
+    );
 }

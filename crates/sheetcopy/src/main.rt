@@ -15,5 +15,10 @@ fn main(rt: HostRuntime) {
     let m = read_text(&rt, b"moves.txt", &mut moves);
     let l = read_text(&rt, b"labels.txt", &mut labels);
     let written = write_copy(&moves[..m], &labels[..l], &mut out);
-    print(&rt, b"sheetcopy", &out[..written.length], written.refusal);
+    print(
+        &rt,
+        b"sheetcopy",
+        &out[..written.length],
+        written.refusal.map(u64::from),
+    );
 }

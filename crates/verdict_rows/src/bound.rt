@@ -18,7 +18,7 @@ pub struct Bound {
 impl Bound {
     // The verdict byte of a `P` with these ends.
     #[tactic(auto, unfolding(crate::specs::Byte::judged_byte))]
-    pub fn judge(self, lower: u64, upper: u64) -> u8
+    pub(crate) fn judge(self, lower: u64, upper: u64) -> u8
         requires { (lower ≤ billion) × (upper ≤ billion) }
         ensures { result ≡ judged_byte (comparison_of self.comparison) self.threshold lower upper }
     {
@@ -29,7 +29,7 @@ impl Bound {
     // That of one that the moves decide, from a byte that says whether what the threshold asks for holds: possible with 0, certain with
     // 1,000,000,000.
     #[tactic(auto, unfolding(crate::specs::Byte::told_byte))]
-    pub fn tell(self, byte: u8) -> u8
+    pub(crate) fn tell(self, byte: u8) -> u8
         ensures { result ≡ told_byte (comparison_of self.comparison) self.threshold byte }
     {
         self.told(verdicts::holds(byte, false))
@@ -37,7 +37,7 @@ impl Bound {
 
     // The same over a next move, from its ends.
     #[tactic(auto, using(crate::specs::Byte::next_told), unfolding(crate::specs::Byte::told_byte))]
-    pub fn tell_next(self, lower: u64, upper: u64) -> u8
+    pub(crate) fn tell_next(self, lower: u64, upper: u64) -> u8
         ensures { result ≡ told_byte (comparison_of self.comparison) self.threshold (next_byte self.threshold lower upper) }
     {
         self.told(self.holds_next(lower, upper))

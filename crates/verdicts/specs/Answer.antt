@@ -10,7 +10,12 @@ abbrev pub answer_of : Result Accepted Refusal → Answer
 answer_of (Ok accepted) = accepted_with accepted.depth
 answer_of (Err refusal) = refused_with (number_of refusal)
 
+-- the same, where the number stands in the refusal's place
+abbrev pub numbered_answer : Result Accepted ℕ → Answer
+numbered_answer (Ok accepted) = accepted_with accepted.depth
+numbered_answer (Err number) = refused_with number
+
 -- the states of an accepted job's report; none of a refused one
-abbrev pub reported_states : Result Accepted Refusal → ℕ
+abbrev pub reported_states : {E : Type 0} → Result Accepted E → ℕ
 reported_states (Ok accepted) = accepted.states
 reported_states (Err refusal) = 0

@@ -3,3 +3,4 @@ pub mod Paper
 pub mod Byte
 pub mod Refusal
 pub mod Answer
+pub mod Sentence

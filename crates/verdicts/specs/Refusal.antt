@@ -1,6 +1,7 @@
 -- The numbers of refusals: documents 01 and 02, "Turned-back jobs". Assumes nothing.
-use Rattle.std.specs.Prelude.{ℕ, Option, Some, None, Result, Ok, Err}
+use Rattle.std.specs.Prelude.{◌≡◌, ◌≢◌, ℕ, Option, Some, None, Result, Ok, Err, MatchResult}
 use Rattle.verdicts.specs.declared.refusal.Refusal.{Refusal}
+use Rattle.verdicts.specs.declared.refusal.StrangeNumber.{StrangeNumber}
 use Rattle.verdicts.specs.declared.refusal.Refusal.TheVariants.{OutOfBytes, BrokenLayout, WrongFirstLine, WrongStates, ManyMoves, StrangeState, WrongRate, NoFormula, LargeFormula, StrangeLabel, WrongBound, HighLoad, ShortBuffer, WrongTimes, ShortCopy}
 
 -- "A refusal prints `refused` and, on the next line, its number."
@@ -25,3 +26,8 @@ number_of ShortCopy = 17
 abbrev pub refusal_in : {A : Type 0} → Result A Refusal → Option ℕ
 refusal_in (Ok x) = None
 refusal_in (Err refusal) = Some (number_of refusal)
+
+-- the refusal with this number, or the number where none has it
+abbrev pub Decodes : ℕ → Result Refusal StrangeNumber → Type 0
+Decodes number r =
+    MatchResult r (λ refusal. number_of refusal ≡ number) (λ e. (e.0 ≡ number) × ((refusal : Refusal) → number_of refusal ≢ number))

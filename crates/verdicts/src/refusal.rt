@@ -1,6 +1,7 @@
 // What a job or a copy is turned back with.
-ghost use Rattle.std.specs.Prelude.{◌≡◌};
-ghost use Rattle.verdicts.specs.Refusal.{number_of};
+ghost use Rattle.std.specs.Prelude.{◌≡◌, Some};
+ghost use Rattle.verdicts.specs.Refusal.{number_of, Decodes};
+ghost use Rattle.verdicts.specs.Sentence.{sentence_of};
 
 use std::error::Error;
 use std::fmt;
@@ -49,7 +50,41 @@ impl From<Refusal> for u64 {
     }
 }
 
+// A number that no refusal has.
+#[derive(Clone, Copy, Debug, PartialEq, Eq)]
+pub struct StrangeNumber(pub u64);
+
+impl TryFrom<u64> for Refusal {
+    type Error = StrangeNumber;
+
+    ghost try_from_gives = { Decodes };
+
+    // The refusal that prints this number.
+    fn try_from(number: u64) -> Result<Refusal, StrangeNumber> {
+        match number {
+            1 => Ok(Refusal::OutOfBytes),
+            2 => Ok(Refusal::BrokenLayout),
+            3 => Ok(Refusal::WrongFirstLine),
+            4 => Ok(Refusal::WrongStates),
+            5 => Ok(Refusal::ManyMoves),
+            6 => Ok(Refusal::StrangeState),
+            9 => Ok(Refusal::WrongRate),
+            10 => Ok(Refusal::NoFormula),
+            11 => Ok(Refusal::LargeFormula),
+            12 => Ok(Refusal::StrangeLabel),
+            13 => Ok(Refusal::WrongBound),
+            14 => Ok(Refusal::HighLoad),
+            15 => Ok(Refusal::ShortBuffer),
+            16 => Ok(Refusal::WrongTimes),
+            17 => Ok(Refusal::ShortCopy),
+            _ => Err(StrangeNumber(number)),
+        }
+    }
+}
+
 impl fmt::Display for Refusal {
+    ghost output = { λ refusal. Some (sentence_of refusal) };
+
     // The sentence that a program says of a refusal, behind `refused, since `.
     fn fmt<W: fmt::Write>(&self, f: &mut fmt::Formatter<W>) -> fmt::Result {
         f.write_str(match self {

@@ -10,5 +10,5 @@ returns-else-has_all c = rw c.in-Ok.is (report_lacks _ _ _ _ _ c.args.out.now _ 
 
 pub returns-in-Err : goal.returns-in-Err
 returns-in-Err c =
-    rw (c.in-Err.is, ← c.from.ensures)
+    rw c.in-Err.is
     (refusal_printed 0 c.args.lower.now c.args.upper.now c.args.verdicts.now c.args.order.now c.args.out.now _ c.render_refusal.ensures)

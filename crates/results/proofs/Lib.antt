@@ -1,2 +1,0 @@
--- The law that the proof of `write` leans on.
-mod WriteLaw
