@@ -102,7 +102,7 @@ def for_nobody(crate):
 
 
 def members_for_nobody(crate):
-    """The public functions and constants of a crate's public types that the code of no other crate names, as `Type::name`."""
+    """The public functions and constants of a crate's public types that no other crate names; a call `.name(` of whatever type counts as one."""
     rest = "\n".join(text for other in listed() if other != crate for text in texts(other, "*.rt").values())
     found = []
     for text in texts(crate, "*.rt").values():
