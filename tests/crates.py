@@ -61,15 +61,23 @@ def declared(crate):
     """
     found = {}
     for name, text in texts(crate, "*.rt").items():
-        lines, owner = text.splitlines(), None
-        for at, line in enumerate(lines):
-            begun, item = METHODS.match(line), ITEM.match(line)
-            owner = begun[1] if begun else None if line == "}" else owner
-            if item and item["indent"] and owner in found:
+        lines = text.splitlines()
+        for at, owner, item in items_of(lines):
+            if item["indent"] and owner in found:
                 found[owner][2].update(shown(lines, at, item))
-            elif item and not item["indent"]:
+            elif not item["indent"]:
                 found[item["name"]] = item["kind"], name, shown(lines, at, item)
     return found
+
+
+def items_of(lines):
+    """Each public item that the lines of a file declare: its place, the type among whose methods it stands, if any, and what the line says."""
+    owner = None
+    for at, line in enumerate(lines):
+        begun, item = METHODS.match(line), ITEM.match(line)
+        owner = begun[1] if begun else None if line == "}" else owner
+        if item:
+            yield at, owner, item
 
 
 def shown(lines, at, item):
@@ -106,11 +114,8 @@ def members_for_nobody(crate):
     rest = "\n".join(text for other in listed() if other != crate for text in texts(other, "*.rt").values())
     found = []
     for text in texts(crate, "*.rt").values():
-        owner = None
-        for line in text.splitlines():
-            begun, item = METHODS.match(line), ITEM.match(line)
-            owner = begun[1] if begun else None if line == "}" else owner
-            if item and item["indent"] and owner in public(crate):
+        for _, owner, item in items_of(text.splitlines()):
+            if item["indent"] and owner in public(crate):
                 if not re.search(rf"\.{item['name']}\(|\b{owner}::{item['name']}\b", rest):
                     found.append(f"{owner}::{item['name']}")
     return sorted(found)

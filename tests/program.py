@@ -1,5 +1,6 @@
 """The program, run on a job: its three texts are put into a folder of their own."""
 import resource
+import socket
 import subprocess
 import tempfile
 from pathlib import Path
@@ -21,3 +22,13 @@ def run(job, stack=None, command=(PROGRAM,)):
     with tempfile.TemporaryDirectory() as folder:
         put(job, folder)
         return subprocess.run(command, cwd=folder, stdout=subprocess.PIPE, stderr=subprocess.DEVNULL, check=True, preexec_fn=limit).stdout
+
+
+def told(job, command=(PROGRAM,)):
+    """What the program, or another command, writes on standard error for a job, each write by itself."""
+    ours, theirs = socket.socketpair(socket.AF_UNIX, socket.SOCK_SEQPACKET)
+    with tempfile.TemporaryDirectory() as folder, ours:
+        put(job, folder)
+        with theirs:
+            subprocess.run(command, cwd=folder, stdout=subprocess.DEVNULL, stderr=theirs.fileno(), check=True)
+        return list(iter(lambda: ours.recv(1 << 16), b""))

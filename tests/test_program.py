@@ -22,7 +22,7 @@ from tests.jobs import Sheet, damaged_job, random_job
 from tests.mutations import bent_job, with_lines_drawn
 from tests.places import DEEP
 from tests.possible import drawn_job
-from tests.program import run
+from tests.program import run, told
 
 DAMAGED = 3_000
 MADE = 300
@@ -206,6 +206,12 @@ class Program(unittest.TestCase):
         labels, open_ = labels_text([b"dead"], [[0], [0], [1]]), b"%d,0,1000000000,0,undecided\n"
         first = REPORT_LINE + no % 0 + open_ % 1 + no % 2
         self.assertEqual(run((moves_text([(1, 1, 2), (1, 2, 1)]), labels, b"! P < 333333334 X dead\n")), first + first)
+
+    def test_a_refusal_is_four_writes(self):
+        """The name, what every refusal begins with, the sentence and the line feed; nothing beside a report."""
+        sentence = b"formula.txt breaks the grammar."
+        self.assertEqual(told((MOVES, LABELS, b"&\n")), [b"sheetcheck", b": refused, since ", sentence, b"\n"])
+        self.assertEqual(told((MOVES, LABELS, FORMULA)), [])
 
     def test_stack_of_the_deepest_formulas(self):
         limit = lambda: resource.setrlimit(resource.RLIMIT_STACK, (READING_STACK, READING_STACK))

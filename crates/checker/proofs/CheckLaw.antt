@@ -2,7 +2,7 @@
 use mathlib.Core.Path.{◌≡◌, refl, sym, ap, subst, ◌∙◌}
 use mathlib.Core.Bool.{Bool, true, false}
 use mathlib.Core.List.{List}
-use Rattle.std.specs.Prelude.{Option, None, Some, option_map, Result, Ok, Err, IfOk}
+use Rattle.std.specs.Prelude.{None, Some, option_map, Result, Ok, Err, IfOk}
 use Prim.Native.Nat.{ℕ, ◌≤◌, ◌<◌}
 use native.Mathlib.Omega.{arith}
 use lib.ListN.{length}
@@ -45,18 +45,6 @@ use Rattle.checker.specs.Report.{formula_in, ReportAsked, ReportLeft}
 refused_as : {k : ℕ} (x : Result Accepted Refusal) → refusal_in x ≡ Some k → (answer_of x ≡ refused_with k) × (reported_states x ≡ 0)
 refused_as (Ok a) e = absurd cc
 refused_as (Err r) e = (cc, refl)
-
--- what is told of tests that hold
-module _ {A : Type 0} {r : Result A Refusal} {x : A} (e : r ≡ Ok x) where
-  pub none_holds : {o : Option ℕ} → refusal_in r ≡ o → None ≡ o
-  none_holds h = sym (ap refusal_in e) ∙ h
-
-  pub then_laid : {P : Type 0} → IfOk r (λ _. P) → P
-  then_laid h = rw e at h
-
--- and of one that does not
-pub one_holds : {A : Type 0} {r : Result A Refusal} {x : Refusal} {o : Option ℕ} → r ≡ Err x → refusal_in r ≡ o → Some (number_of x) ≡ o
-one_holds e h = sym (ap refusal_in e) ∙ h
 
 module _ (j : Job) (before : Buffers (List ℕ)) where
   by : {o : Outcome} (x : Answer) (after : Buffers (List ℕ)) → outcome j (lengths before) ≡ o → FinishedBy j o before x after → Finished j before x after
@@ -111,14 +99,19 @@ module _ (j : Job) (d : Dimensions) (bytes : out_of_bytes formula_bytes j.formul
         ∙ ap (λ (q : ℕ). first_of (formula_tests (names_of j.labels) q (read_formula j.formula))) (sym (ap (λ (y : Dimensions). y.q) is))
         ∙ ap (λ (ns : List Text). first_of (formula_tests ns d.q (read_formula j.formula))) (sym behind)
 
-    pub formula_turned : {k : ℕ} → Some k ≡ first_of (formula_tests names d.q (read_formula j.formula)) → (before : Buffers (List ℕ))
-        (x : Result Accepted Refusal) → refusal_in x ≡ Some k → Ended j before x before
-    formula_turned h before x e = turned_by_texts j before (told ∙ sym h) x e
+    pub formula_turned : {A : Type 0} {r : Result A Refusal} {k : Refusal} → r ≡ Err k
+        → refusal_in r ≡ first_of (formula_tests names d.q (read_formula j.formula)) → (before : Buffers (List ℕ))
+        (x : Result Accepted Refusal) → refusal_in x ≡ Some (number_of k) → Ended j before x before
+    formula_turned e h before x g = turned_by_texts j before (told ∙ sym h ∙ ap refusal_in e) x g
 
-    module _ (h : None ≡ first_of (formula_tests names d.q (read_formula j.formula))) {x : Nodes}
-        (laid : option_map (stored names) (read_formula j.formula) ≡ Some x) where
+    -- the tests pass, and what passes was laid
+    module _ {A : Type 0} {r : Result A Refusal} {y : A} (e : r ≡ Ok y) (h : refusal_in r ≡ first_of (formula_tests names d.q (read_formula j.formula)))
+        (x : Nodes) (kept : IfOk r (λ _. option_map (stored names) (read_formula j.formula) ≡ Some x)) where
       passes : text_refusal j ≡ None
-      passes = told ∙ sym h
+      passes = told ∙ sym h ∙ ap refusal_in e
+
+      laid : option_map (stored names) (read_formula j.formula) ≡ Some x
+      laid = rw e at kept
 
       good : FormulaPassed (names_of j.labels) (top_rate (job_chain j)) (read_formula j.formula)
       good = formula_passed _ _ _ (sym (left_to_formula j bytes passed) ∙ passes)

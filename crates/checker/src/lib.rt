@@ -14,7 +14,7 @@ ghost use Rattle.checker.specs.Job.{job, buffers, states_in};
 ghost use Rattle.checker.specs.Leaves.{leaves};
 ghost use Rattle.checker.specs.Checked.{Ended};
 
-use refusals::Lengths;
+use refusals::{Lengths, TestedFormula};
 use sheet_words::Sheet;
 use verdicts::{Accepted, Refusal};
 
@@ -43,9 +43,8 @@ fn check_formula(
 {
     let has = sheet.has;
     let names = labels::names_part(sheet.labels, has.first);
-    let read = refusals::test_formula(formula, names, has.names, has.q);
-    read.tested?;
-    let nodes = read.nodes;
+    let TestedFormula { tested, nodes } = refusals::test_formula(formula, names, has.names, has.q);
+    tested?;
     let lent = Lengths {
         lower: lower.len(),
         upper: upper.len(),

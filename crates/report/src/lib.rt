@@ -26,7 +26,7 @@ use verdicts::Accepted;
 // None where the buffer is too short for the text, or a slice for the states, or the order has a number that is no state's; the buffer is as it
 // was then.
 // The columns come apart from whoever calls, and their lengths are tested here before they are `Rows`. A refusal is any number, as for
-// `write_refusal`: what is taken here may not shrink.
+// `write_refusal`.
 pub fn render(
     out: &mut [u8],
     answer: Result<Accepted, u64>,
